@@ -1,0 +1,14 @@
+pub mod Signs
+pub mod Build
+pub mod UniqueTree
+pub mod Parse
+pub mod Machine
+pub mod Sound
+pub mod Viable
+pub mod Tallies
+pub mod Segments
+pub mod Lexing
+pub mod Course
+pub mod Halts
+pub mod Slips
+pub mod Whole

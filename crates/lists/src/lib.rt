@@ -1,0 +1,6 @@
+//! Access lists: their tokens, and the check that a text is a lawful list.
+mod check;
+mod class;
+pub mod list;
+pub mod reader;
+pub mod token;

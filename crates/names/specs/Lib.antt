@@ -1,0 +1,7 @@
+pub mod Language
+pub mod Machine
+pub mod Words
+pub mod Names
+pub mod Paths
+pub mod Faults
+pub mod Joints
