@@ -41,7 +41,7 @@ no-signs (ends n) e = (n, refl)
 no-signs (next n sh sp) e = absurd (omega (arith, ap length e))
 
 -- a list text is a list with an item, or blank
-list-cases : (t : List ℕ) → ListText t → ItemText t ⊎ ((n : ℕ) × (t ≡ blanks n))
+pub list-cases : (t : List ℕ) → ListText t → ItemText t ⊎ ((n : ℕ) × (t ≡ blanks n))
 list-cases t h = by-tree (h .tree) (h .reads) (h .shallow)
   where
     by-tree : (r : Tree) → Spells t (tree-signs r) → tree-depth r ≤ 16 → ItemText t ⊎ ((n : ℕ) × (t ≡ blanks n))
@@ -49,7 +49,7 @@ list-cases t h = by-tree (h .tree) (h .reads) (h .shallow)
     by-tree (list l) s d = inl (record { alts = l; spells = s; shallow = d })
 
 -- the front of blanks is blanks
-blank-front : (s t : List ℕ) (n : ℕ) → s ++ t ≡ blanks n → s ≡ blanks (length s)
+pub blank-front : (s t : List ℕ) (n : ℕ) → s ++ t ≡ blanks n → s ≡ blanks (length s)
 blank-front [] t n e = refl
 blank-front (b ∷ s) t zero e = absurd (omega (arith, ap length e))
 blank-front (b ∷ s) t (suc n) e = λ i. ap (λ l. getD l 0 32) e i ∷ blank-front s t n (ap (drop 1) e) i

@@ -3,6 +3,7 @@ pub mod Build
 pub mod UniqueTree
 pub mod Parse
 pub mod Machine
+pub mod UniqueSpelling
 pub mod Sound
 pub mod Viable
 pub mod Tallies
@@ -12,3 +13,4 @@ pub mod Course
 pub mod Halts
 pub mod Slips
 pub mod Whole
+pub mod OneFault

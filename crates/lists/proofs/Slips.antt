@@ -286,7 +286,7 @@ module _ (text : List ℕ) (marked : Marked text) where
       let w = leads-join (leads-join p (bracket-leads place d due lt is few)) (r (d + 1) (omega arith)) in
       let front : length text - 0 ≡ length text = omega arith in
       let whole : reads start text ≡ Some (w .state) = ap (reads start) (sym (take-all (length text) text (omega arith)) ∙ ap (λ n. take n text) (sym front)) ∙ w .reading in
-      unclosed (record { within = lt; bracket = is; inside = (i .alts, i .spells); open-brackets = d; closes = item-list (closes-item text (w .state) (d + 1) whole (stands-lands (w .state) (within (d + 1) false) _ (w .stands))) })
+      unclosed (record { within = lt; bracket = is; inside = i; open-brackets = d; closes = item-list (closes-item text (w .state) (d + 1) whole (stands-lands (w .state) (within (d + 1) false) _ (w .stands))) })
 
   -- a bracket that closes is an item
   pub bracket-read : (place end d : ℕ) → place < length text → getD text place 0 ≡ 40 → d < 16 → ListRead text (place + 1) (d + 1) (Some end) → ItemRead text place end d

@@ -34,10 +34,10 @@ depth (brace a) = depthAt a
 depth (name a k) = depthAt a
 depth (braced a) = depthAt a
 
-abbrev opens : ℕ → Bool
+abbrev pub opens : ℕ → Bool
 opens b = eqb b 40
 
-abbrev closes : ℕ → Bool
+abbrev pub closes : ℕ → Bool
 closes b = eqb b 41
 
 -- a byte after a state, where braces are open or not and d brackets are

@@ -42,7 +42,7 @@ mutual
   build-seq us u (one x) = build-item us u x
   build-seq us u (then s x) = build-both _ _ _ (seq-signs s) (item-signs x) (build-seq us u s) (build-item us (puts u s) x)
 
-  build-alts : (us : List Level) (l : Alts) → build (inside us fresh) (alts-signs l) ≡ inside us (full l)
+  pub build-alts : (us : List Level) (l : Alts) → build (inside us fresh) (alts-signs l) ≡ inside us (full l)
   build-alts us (only s) = build-seq us fresh s ∙ ap (inside us) (puts-fresh s)
   build-alts us (or l s) = build-both _ _ _ (alts-signs l) (bar ∷ seq-signs s) (build-alts us l) (build-seq us (barred l) s ∙ ap (inside us) (puts-barred l s))
 

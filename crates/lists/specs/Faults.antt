@@ -17,9 +17,7 @@ use Rattle.faults.specs.declared.kind.Kind.the-variants.{ByteNotAllowedInList, 
 use Rattle.names.specs.Language.{Stuck}
 use Rattle.names.specs.Words.{wordByte, countOf}
 use Rattle.names.specs.Faults.{fault}
-use Rattle.lists.specs.Trees.{Alts, alts-signs}
-use Rattle.lists.specs.Tokens.{Spells}
-use Rattle.lists.specs.Texts.{ListText}
+use Rattle.lists.specs.Texts.{ItemText, ListText}
 
 -- whether the text stands in braces that are open
 abbrev pub bracedAfter : Bool → List ℕ → Bool
@@ -50,7 +48,7 @@ kindAt text place = cond (inBraces (take place text)) GroupNameUnlawful (kindHer
 pub record Unclosed (text : List ℕ) (place : ℕ) : Type 0 where
   pub within : place < length text
   pub bracket : getD text place 0 ≡ 40
-  pub inside : (l : Alts) × Spells (drop (place + 1) text) (alts-signs l)
+  pub inside : ItemText (drop (place + 1) text)
   pub open-brackets : ℕ
   pub closes : ListText (text ++ replicate (open-brackets + 1) 41)
 

@@ -1,4 +1,5 @@
 -- List texts: the tree that a text reads as, and which texts are lawful.
+use mathlib.Core.Path.{_≡_}
 use mathlib.Core.List.{List, []}
 use Prim.Native.Nat.{ℕ, _≤_}
 use lib.ListN.{length}
@@ -33,3 +34,7 @@ pub record ListText (text : List ℕ) : Type 0 where
 pub record LawfulList (text : List ℕ) : Type 0 where
   pub form : ListText text
   pub short : length text ≤ 512
+
+-- the text reads as one tree at most
+abbrev pub OneReading : List ℕ → Type 0
+OneReading text = (a b : Tree) → Reads text a → Reads text b → a ≡ b

@@ -8,6 +8,7 @@ ghost use Rattle.lists.specs.Bytes.{Marked};
 ghost use Rattle.lists.specs.Machine.{within, Leads, Enters, ListRead, ItemRead};
 ghost use Rattle.lists.specs.Texts.{ListText};
 ghost use Rattle.lists.specs.Faults.{Slip, Closes};
+use super::MAX_DEPTH;
 use super::class::Class;
 use super::class::run_end;
 use super::reader::next_token;
@@ -15,9 +16,6 @@ use super::token::Lexeme;
 use super::token::Token;
 use faults::fault::Fault;
 use faults::kind::Kind;
-
-/// How deep brackets may be.
-pub const MAX_DEPTH: usize = 16;
 
 /// Whether the text is a list, its length aside; else the fault that it has.
 pub(crate) fn check_list(text: &[u8]) -> Result<(), Fault>

@@ -4,3 +4,6 @@ mod class;
 pub mod list;
 pub mod reader;
 pub mod token;
+
+/// How deep the brackets of a list may be.
+pub const MAX_DEPTH: usize = 16;

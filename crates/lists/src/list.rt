@@ -1,8 +1,9 @@
 //! Access lists.
 ghost use mathlib.Core.Path.{_≡_};
 ghost use Rattle.std.specs.Results.{Cases};
+ghost use Rattle.faults.specs.Answers.{Accepted, Refused};
 ghost use Rattle.texts.specs.Shown.{shown};
-ghost use Rattle.lists.specs.Texts.{LawfulList};
+ghost use Rattle.lists.specs.Texts.{LawfulList, OneReading};
 ghost use Rattle.lists.specs.Faults.{ListFault};
 use super::check::check_list;
 use faults::fault::Fault;
@@ -22,7 +23,8 @@ pub struct AccessList {
 impl AccessList {
     /// The list that the text is, or the fault that it has.
     pub fn new(text: &[u8]) -> Result<AccessList, Fault>
-        ensures { λ r. ⌜ Cases r (λ l. (shown (l .text) ≡ now (text .entry)) × LawfulList (now (text .entry))) (λ f. ListFault (now (text .entry)) f) ⌝ }
+        ensures answer { λ r. ⌜ Cases r (λ l. (shown (l .text) ≡ now (text .entry)) × Accepted (LawfulList (now (text .entry))) (ListFault (now (text .entry)))) (λ f. Refused (LawfulList (now (text .entry))) (ListFault (now (text .entry))) f) ⌝ }
+        ensures reading { λ _. ⌜ OneReading (now (text .entry)) ⌝ }
     {
         let Some(held) = Text::copy_of(text) else {
             return Err(Fault::at(Kind::TextTooLong, MAX_LIST_BYTES));

@@ -105,6 +105,7 @@ pub(crate) fn next_token<'a>(text: &'a [u8], from: usize) -> Result<Option<Lexem
 }
 
 /// Hands out the tokens of a text from left to right.
+#[derive(Drop)]
 pub struct Tokens<'a> {
     text: &'a [u8],
     at: usize,

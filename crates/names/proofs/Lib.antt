@@ -6,3 +6,6 @@ pub mod Reading
 pub mod Places
 pub mod Checks
 pub mod Slashes
+pub mod Leaving
+pub mod Walking
+pub mod OneFault

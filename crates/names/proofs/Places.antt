@@ -6,6 +6,7 @@ use mathlib.Core.List.{List, [], _∷_, _++_, append-assoc, append-nil}
 use Prim.Native.Nat.{ℕ, zero, suc, _+_, _*_, _-_, _<_, _≤_}
 use native.Mathlib.Omega.{arith}
 use borrow.Author.Tests.{clash}
+use lib.Dec.{eqb}
 use lib.ListN.{length, getD, take, length-append}
 use Rattle.std.proofs.shelf.Lists.{take-at, take-append-le, getD-at, getD-append-left, getD-append-add}
 use Rattle.std.proofs.shelf.Tests.{cases-order}
@@ -16,9 +17,25 @@ use Rattle.names.specs.Joints.{JointAt}
 use Rattle.names.proofs.Forms.{mark-apart}
 use Rattle.names.proofs.Counts.{count-append}
 
+abbrev pub NoWord : Part → Type 0
+NoWord (word w) = ⊥
+NoWord dot = Unit {0}
+NoWord at = Unit {0}
+NoWord plus = Unit {0}
+
 -- the byte of a mark; no mark is a word
 abbrev pub Mark : Part → ℕ → Type 0
-Mark p b = (bytesOf p ≡ b ∷ []) × (markByte b ≡ true)
+Mark p b = (bytesOf p ≡ b ∷ []) × (markByte b ≡ true) × NoWord p
+
+-- the mark that a byte is
+abbrev pub markOf : ℕ → Part
+markOf b = cond (eqb b 46) dot (cond (eqb b 64) at plus)
+
+pub mark-of : (m : Part) (b : ℕ) → Mark m b → markOf b ≡ m
+mark-of (word w) b is = absurd (is .2)
+mark-of dot b is = ap (λ u. markOf (getD u 0 0)) (sym (is .0))
+mark-of at b is = ap (λ u. markOf (getD u 0 0)) (sym (is .0))
+mark-of plus b is = ap (λ u. markOf (getD u 0 0)) (sym (is .0))
 
 pub data Alternates : List Part → Type 0 where
   last : {w : List ℕ} → Word w → Alternates (word w ∷ [])
@@ -30,15 +47,15 @@ alternates-append m b (next c h is′ a′) is a = next c h is′ (alternates-ap
 
 partial-alternates : {ps : List Part} → Partial ps → Alternates ps
 partial-alternates (single h) = last h
-partial-alternates (dotted h p) = next 46 h (refl, refl) (partial-alternates p)
+partial-alternates (dotted h p) = next 46 h (refl, refl, tt) (partial-alternates p)
 
 step-alternates : {ps : List Part} → Step ps → Alternates ps
 step-alternates (program p) = partial-alternates p
-step-alternates (role s p) = alternates-append at 64 (step-alternates s) (refl, refl) (partial-alternates p)
+step-alternates (role s p) = alternates-append at 64 (step-alternates s) (refl, refl, tt) (partial-alternates p)
 
 pub alternates : {ps : List Part} → Steps ps → Alternates ps
 alternates (only s) = step-alternates s
-alternates (joined n s) = alternates-append plus 43 (alternates n) (refl, refl) (step-alternates s)
+alternates (joined n s) = alternates-append plus 43 (alternates n) (refl, refl, tt) (step-alternates s)
 
 -- no byte of a word is a mark
 unmarked : (w : List ℕ) → WordBytes w → (i : ℕ) → i < length w → markByte (getD w i 0) ≡ true → ⊥

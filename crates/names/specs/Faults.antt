@@ -21,7 +21,7 @@ fault k p = record { kind = k; text = 0; place = p }
 abbrev pub markByte : ℕ → Bool
 markByte b = eqb b 46 || eqb b 64 || eqb b 43
 
--- whether a word is due after these bytes: none of them, or the last, is a word's
+-- whether a word is due after these bytes: there are none, or the last is no word's
 abbrev pub dueAfter : Bool → List ℕ → Bool
 dueAfter due [] = due
 dueAfter due (b ∷ bs) = dueAfter (not (wordByte b)) bs

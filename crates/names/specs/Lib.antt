@@ -5,3 +5,4 @@ pub mod Names
 pub mod Paths
 pub mod Faults
 pub mod Joints
+pub mod Parts

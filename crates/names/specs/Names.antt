@@ -62,3 +62,7 @@ pub record LawfulPartial (text : List ℕ) : Type 0 where
 -- how many parts a name has
 abbrev pub PartsOf : List ℕ → ℕ → Type 0
 PartsOf text n = (parts : List Part) → IsName text parts → n ≡ length parts
+
+-- a text is a name by one row of parts at most
+abbrev pub OneRow : List ℕ → Type 0
+OneRow text = (ps qs : List Part) → IsName text ps → IsName text qs → ps ≡ qs

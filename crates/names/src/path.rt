@@ -1,6 +1,7 @@
 //! Paths: where a list is posted, and what a decision is asked for.
 ghost use mathlib.Core.Path.{_≡_};
 ghost use Rattle.std.specs.Results.{Cases};
+ghost use Rattle.faults.specs.Answers.{Accepted, Refused};
 ghost use Rattle.texts.specs.Shown.{shown};
 ghost use Rattle.names.specs.Paths.{LawfulPath};
 ghost use Rattle.names.specs.Faults.{PathFault};
@@ -23,7 +24,7 @@ pub struct Path {
 impl Path {
     /// The path that the text is, or the fault that it has.
     pub fn new(text: &[u8]) -> Result<Path, Fault>
-        ensures { λ r. ⌜ Cases r (λ p. (shown (p .text) ≡ now (text .entry)) × LawfulPath (now (text .entry))) (λ f. PathFault (now (text .entry)) f) ⌝ }
+        ensures { λ r. ⌜ Cases r (λ p. (shown (p .text) ≡ now (text .entry)) × Accepted (LawfulPath (now (text .entry))) (PathFault (now (text .entry)))) (λ f. Refused (LawfulPath (now (text .entry))) (PathFault (now (text .entry))) f) ⌝ }
     {
         let Some(held) = Text::copy_of(text) else {
             return Err(Fault::at(Kind::PathUnlawful, MAX_PATH_BYTES));
