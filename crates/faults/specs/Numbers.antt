@@ -1,7 +1,7 @@
 -- The table of faults: the number and the layer of every kind.
 use Prim.Native.Nat.{ℕ}
 use Rattle.faults.specs.declared.kind.Kind.{Kind}
-use Rattle.faults.specs.declared.kind.Kind.the-variants.{ByteNotAllowed, WordMissing, WordTooLong, NameTooLong, ByteNotAllowedInList, WordTooLongInList, ItemMissing, BracketUnmatched, BracketsTooDeep, GroupNameUnlawful, TextTooLong, GroupNotInBook, GroupTooMany, GroupLeadsToItself, NoSuchProcess, NoListInForce, PathUnlawful, NoRowFree, NoSpaceForRecord, WordsNotAsWritten, VerdictNotWorkedOut, NoSpaceForOutcome, LeaveNotOpenHere}
+use Rattle.faults.specs.declared.kind.Kind.the-variants.{ByteNotAllowed, WordMissing, WordTooLong, NameTooLong, ByteNotAllowedInList, WordTooLongInList, ItemMissing, BracketUnmatched, BracketsTooDeep, GroupNameUnlawful, TextTooLong, GroupNotInBook, TooManyGroups, GroupLeadsToItself, NoSuchProcess, NoListInForce, PathUnlawful, NoRowFree, NoSpaceForRecord, WordsNotAsWritten, VerdictDiffers, NoSpaceForOutcome, LeaveNotOpenHere}
 
 abbrev pub numbers : Kind → ℕ × ℕ
 numbers ByteNotAllowed = (1, 1)
@@ -16,7 +16,7 @@ numbers BracketsTooDeep = (8, 2)
 numbers GroupNameUnlawful = (9, 2)
 numbers TextTooLong = (10, 2)
 numbers GroupNotInBook = (11, 3)
-numbers GroupTooMany = (12, 3)
+numbers TooManyGroups = (12, 3)
 numbers GroupLeadsToItself = (13, 3)
 numbers NoSuchProcess = (14, 4)
 numbers NoListInForce = (15, 4)
@@ -24,7 +24,7 @@ numbers PathUnlawful = (16, 4)
 numbers NoRowFree = (17, 4)
 numbers NoSpaceForRecord = (18, 5)
 numbers WordsNotAsWritten = (19, 5)
-numbers VerdictNotWorkedOut = (20, 5)
+numbers VerdictDiffers = (20, 5)
 numbers NoSpaceForOutcome = (21, 5)
 numbers LeaveNotOpenHere = (22, 5)
 

@@ -16,7 +16,7 @@ pub enum Kind {
     GroupNameUnlawful,
     TextTooLong,
     GroupNotInBook,
-    GroupTooMany,
+    TooManyGroups,
     GroupLeadsToItself,
     NoSuchProcess,
     NoListInForce,
@@ -24,7 +24,7 @@ pub enum Kind {
     NoRowFree,
     NoSpaceForRecord,
     WordsNotAsWritten,
-    VerdictNotWorkedOut,
+    VerdictDiffers,
     NoSpaceForOutcome,
     LeaveNotOpenHere,
 }
@@ -46,7 +46,7 @@ impl Kind {
             Kind::GroupNameUnlawful => 9,
             Kind::TextTooLong => 10,
             Kind::GroupNotInBook => 11,
-            Kind::GroupTooMany => 12,
+            Kind::TooManyGroups => 12,
             Kind::GroupLeadsToItself => 13,
             Kind::NoSuchProcess => 14,
             Kind::NoListInForce => 15,
@@ -54,7 +54,7 @@ impl Kind {
             Kind::NoRowFree => 17,
             Kind::NoSpaceForRecord => 18,
             Kind::WordsNotAsWritten => 19,
-            Kind::VerdictNotWorkedOut => 20,
+            Kind::VerdictDiffers => 20,
             Kind::NoSpaceForOutcome => 21,
             Kind::LeaveNotOpenHere => 22,
         }
@@ -71,9 +71,9 @@ impl Kind {
             | Kind::ItemMissing
             | Kind::BracketUnmatched => 2,
             Kind::BracketsTooDeep | Kind::GroupNameUnlawful | Kind::TextTooLong => 2,
-            Kind::GroupNotInBook | Kind::GroupTooMany | Kind::GroupLeadsToItself => 3,
+            Kind::GroupNotInBook | Kind::TooManyGroups | Kind::GroupLeadsToItself => 3,
             Kind::NoSuchProcess | Kind::NoListInForce | Kind::PathUnlawful | Kind::NoRowFree => 4,
-            Kind::NoSpaceForRecord | Kind::WordsNotAsWritten | Kind::VerdictNotWorkedOut => 5,
+            Kind::NoSpaceForRecord | Kind::WordsNotAsWritten | Kind::VerdictDiffers => 5,
             Kind::NoSpaceForOutcome | Kind::LeaveNotOpenHere => 5,
         }
     }

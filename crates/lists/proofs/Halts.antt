@@ -20,12 +20,12 @@ use Rattle.names.specs.Words.{wordByte, countOf}
 use Rattle.names.specs.Faults.{fault}
 use Rattle.names.proofs.Machine.{blocked, ended}
 use Rattle.lists.specs.Trees.{Sign, Tree, empty, list}
-use Rattle.lists.specs.Bytes.{groupByte, blanks, signOf, part, Marked}
+use Rattle.lists.specs.Bytes.{groupByte, blanks, signOf, part}
 use Rattle.lists.specs.Tokens.{Spells, ends, next}
 use Rattle.lists.specs.Texts.{ItemText, ListText, tree-signs, tree-depth}
 use Rattle.lists.specs.Lexemes.{NoSign}
 use Rattle.lists.specs.Faults.{inBraces, unmatched, kindHere, kindAt, Slip, stuck}
-use Rattle.lists.specs.Machine.{At, within, State, out, word, brace, name, braced, byte-step, reads, start, Stands, Leads}
+use Rattle.lists.specs.Machine.{NotBlank, At, within, State, out, word, brace, name, braced, byte-step, reads, start, Stands, Leads}
 use Rattle.lists.proofs.Machine.{Rests, Lands, lands-none, reads-append, out-sign}
 use Rattle.lists.proofs.Viable.{item-lands, reads-item, accepts, viable, is-close, close-out, letter-item}
 use Rattle.lists.proofs.Tallies.{isBrace, depth, tally}
@@ -89,7 +89,7 @@ brace-unfinished (brace a) e = stopped (brace a) (λ r. r) (cond-false _ _ _ clo
 brace-unfinished (name a k) e = stopped (name a k) (λ r. r) (cond-false _ _ _ close-apart)
 brace-unfinished (braced a) e = stopped (braced a) (λ r. r) refl
 
-module _ (text : List ℕ) (marked : Marked text) where
+module _ (text : List ℕ) (marked : NotBlank text) where
   -- where lists with items leave off, list texts do
   list-stuck : (place : ℕ) → Stuck ItemText text place → Stuck ListText text place
   list-stuck place s = record {

@@ -14,3 +14,4 @@ pub mod Halts
 pub mod Slips
 pub mod Whole
 pub mod OneFault
+pub mod Handing

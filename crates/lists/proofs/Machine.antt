@@ -86,10 +86,10 @@ sign-cases Q d a p n o c m v b s e =
     e
 
 -- such a byte is neither blank, nor of a word, nor a brace
-abbrev Apart : ℕ → Sign → Type 0
+abbrev pub Apart : ℕ → Sign → Type 0
 Apart b s = (eqb b 32 ≡ false) × ((wordByte b ≡ false) × (eqb b 123 ≡ false))
 
-sign-apart : (b : ℕ) (s : Sign) → signOf b ≡ Some s → Apart b s
+pub sign-apart : (b : ℕ) (s : Sign) → signOf b ≡ Some s → Apart b s
 unfolding wordByte
 sign-apart = sign-cases Apart (refl, (refl, refl)) (refl, (refl, refl)) (refl, (refl, refl)) (refl, (refl, refl)) (refl, (refl, refl)) (refl, (refl, refl)) (refl, (refl, refl)) (refl, (refl, refl))
 

@@ -20,7 +20,7 @@ use Rattle.faults.specs.declared.kind.Kind.the-variants.{ByteNotAllowedInList, 
 use Rattle.names.specs.Words.{wordByte, Word}
 use Rattle.names.specs.Faults.{fault}
 use Rattle.lists.specs.Trees.{Sign, atom, word as word-atom, dot, at, plus, any, group, open-bracket, close-bracket, star, bar}
-use Rattle.lists.specs.Bytes.{groupByte, GroupName, blanks, signOf, part, Past, Marked}
+use Rattle.lists.specs.Bytes.{groupByte, GroupName, blanks, signOf, part, Past}
 use Rattle.lists.specs.Tokens.{Shows, shows-word, shows-mark, shows-group}
 use Rattle.lists.specs.declared.token.Token.{Token}
 use Rattle.lists.specs.declared.token.Token.the-variants.{Word as Token-Word, Dot, At as Token-At, Plus, Any, Open, Close, Star, Bar, Group}
@@ -28,8 +28,8 @@ use Rattle.lists.specs.Lexemes.{sign, Gap, isBlank, isClosing, TokenAt, NoSign
 use Rattle.std.specs.Results.{Cases}
 use Rattle.std.specs.declared.result.Result.{Result}
 use Rattle.std.specs.declared.result.Result.the-variants.{Ok, Err}
-use Rattle.lists.specs.Faults.{unmatched, kindHere, kindAt, Slip, unclosed, Closes}
-use Rattle.lists.specs.Machine.{At, within, sign-step, State, out, word, brace, name, braced, item, lift, signed, byte-step, reads, start, Stands, Leads, Enters, ListRead, ItemRead}
+use Rattle.lists.specs.Faults.{unmatched, kindHere, kindAt, Slip, unclosed}
+use Rattle.lists.specs.Machine.{Closes, NotBlank, At, within, sign-step, State, out, word, brace, name, braced, item, lift, signed, byte-step, reads, start, Stands, Leads, Enters, ListRead, ItemRead}
 use Rattle.lists.proofs.Machine.{Lands, reads-append, reads-blanks, out-sign, out-brace, out-reads-word, brace-reads-name, blank-ungrouped, sign-cases}
 use Rattle.lists.proofs.Viable.{reads-item, closes-item}
 use Rattle.lists.proofs.Segments.{part-length, part-join, part-none, part-one, part-more, past-at, every-append}
@@ -99,7 +99,7 @@ kind-other b front rest n =
         (λ e. e)
         (cases-bool (eqb b k))
 
-module _ (text : List ℕ) (marked : Marked text) where
+module _ (text : List ℕ) (marked : NotBlank text) where
   -- a stop in braces, and one elsewhere
   braced-slip : (from place : ℕ) (a : At) → Leads text 0 from (within 0 true) a → (s : Stop text marked from place a) → isBrace (s .here) ≡ true → Slip text (fault GroupNameUnlawful place)
   braced-slip from place a p s e = let h = stop-halt text marked from place a p s in halt-slip text marked place GroupNameUnlawful (h .0) (kind-braced text marked place (h .0) (alike-brace (h .1) ∙ e))

@@ -10,11 +10,11 @@ use Rattle.std.proofs.shelf.Lists.{take-all, getD-replicate}
 use Rattle.std.specs.declared.option.Option.{Option}
 use Rattle.std.specs.declared.option.Option.the-variants.{Some, None}
 use Rattle.lists.specs.Trees.{empty}
-use Rattle.lists.specs.Bytes.{blanks, part, Marked}
+use Rattle.lists.specs.Bytes.{blanks, part}
 use Rattle.lists.specs.Tokens.{Spells, ends}
 use Rattle.lists.specs.Texts.{ListText}
 use Rattle.lists.specs.Lexemes.{Gap, isBlank}
-use Rattle.lists.specs.Machine.{within, reads, start, ListRead}
+use Rattle.lists.specs.Machine.{NotBlank, within, reads, start, ListRead}
 use Rattle.lists.proofs.Machine.{Lands}
 use Rattle.lists.proofs.Viable.{reads-item}
 use Rattle.lists.proofs.Segments.{past-at}
@@ -27,7 +27,7 @@ module _ (text : List ℕ) where
   whole k le = take-all (k - 0) text (omega arith)
 
   -- blanks that do not reach the end leave a byte that is none
-  pub marked-by : (k : ℕ) → Gap text 0 k → k < length text → Marked text
+  pub marked-by : (k : ℕ) → Gap text 0 k → k < length text → NotBlank text
   marked-by k g lt n e =
       clash
       (sym (past-at isBlank text k lt (g .past))

@@ -44,7 +44,3 @@ pub record Run (p : ℕ → Bool) (text : List ℕ) (i j : ℕ) : Type 0 where
   pub within : j ≤ length text
   pub bytes : Every (λ b. p b ≡ true) (part text i j)
   pub past : Past p (drop j text)
-
--- some byte of the text is not blank
-abbrev pub Marked : List ℕ → Type 0
-Marked text = (n : ℕ) → text ≡ blanks n → ⊥

@@ -6,11 +6,6 @@ use mathlib.Core.List.{List, [], _∷_, _++_}
 use Prim.Native.Nat.{ℕ, _+_, _<_, _≤_}
 use lib.Dec.{eqb, leb}
 use lib.ListN.{length, getD, take, drop, replicate}
-use mathlib.Core.Logic.{_⊎_}
-use Rattle.std.specs.declared.option.Option.{Option}
-use Rattle.std.specs.declared.option.Option.the-variants.{Some}
-use Rattle.std.specs.declared.result.Result.{Result}
-use Rattle.std.specs.declared.result.Result.the-variants.{Ok, Err}
 use Rattle.faults.specs.declared.fault.Fault.{Fault}
 use Rattle.faults.specs.declared.kind.Kind.{Kind}
 use Rattle.faults.specs.declared.kind.Kind.the-variants.{ByteNotAllowedInList, WordTooLongInList, ItemMissing, BracketUnmatched, BracketsTooDeep, GroupNameUnlawful, TextTooLong}
@@ -60,8 +55,3 @@ pub data Slip (text : List ℕ) : Fault → Type 0 where
 pub data ListFault (text : List ℕ) : Fault → Type 0 where
   long : 512 < length text → ListFault text (fault TextTooLong 512)
   slip : {f : Fault} → length text ≤ 512 → Slip text f → ListFault text f
-
--- a `)`: without an open bracket it is unmatched; where an item is due, that is missing; else the bracket ends
-abbrev pub Closes : ℕ → ℕ → ℕ → Bool → Result (Option ℕ) Fault → Type 0
-Closes place end d due (Ok n) = (0 < d) × ((due ≡ false) × (n ≡ Some end))
-Closes place end d due (Err f) = ((d ≡ 0) × (f ≡ fault BracketUnmatched place)) ⊎ ((0 < d) × ((due ≡ true) × (f ≡ fault ItemMissing place)))

@@ -19,7 +19,7 @@ use Rattle.lists.specs.declared.token.Token.the-variants.{Word, Dot, At, Plus,
 use Rattle.lists.specs.declared.token.Lexeme.{Lexeme}
 use Rattle.lists.specs.Trees.{Sign, atom, word, dot, at, plus, any, group, open-bracket, close-bracket, star, bar}
 use Rattle.lists.specs.Bytes.{groupByte, GroupName, signOf, part, Past, Run}
-use Rattle.lists.specs.Tokens.{Shows}
+use Rattle.lists.specs.Tokens.{Shows, Spells}
 
 -- the sign that a token is
 abbrev pub sign : Token → Sign
@@ -78,3 +78,12 @@ abbrev pub Passes : List ℕ → ℕ → ℕ → Result (Option Lexeme) Fault �
 Passes text from to (Ok None) = Next text from None × (to ≡ length text)
 Passes text from to (Ok (Some l)) = Next text from (Some l) × (to ≡ l .end)
 Passes text from to (Err f) = TokenFault text from f × (to ≡ from)
+
+-- what the reader hands out from a place on, to the text's end: these signs, one after another
+pub data Handed (text : List ℕ) : ℕ → List Sign → Type 0 where
+  all : {at : ℕ} → Gap text at (length text) → Handed text at []
+  first : {at place end : ℕ} {s : Sign} {ss : List Sign} → TokenAt text at place end s → Handed text end ss → Handed text at (s ∷ ss)
+
+-- the tokens with the blanks between them are the text again: the reader hands out signs exactly if they spell it
+abbrev pub HandsOut : List ℕ → Type 0
+HandsOut text = (ss : List Sign) → (Handed text 0 ss → Spells text ss) × (Spells text ss → Handed text 0 ss)

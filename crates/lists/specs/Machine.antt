@@ -2,16 +2,22 @@
 -- what it means is in the promise of the check itself, which speaks of texts and trees alone.
 use mathlib.Core.Path.{_≡_}
 use mathlib.Core.Bool.{Bool, true, false, cond}
+use mathlib.Core.Logic.{_⊎_}
 use mathlib.Core.List.{List}
 use Prim.Native.Nat.{ℕ, _+_, _-_, _<_, _≤_}
 use lib.Dec.{ltb, eqb}
 use lib.ListN.{length, take, drop}
 use Rattle.std.specs.declared.option.Option.{Option}
 use Rattle.std.specs.declared.option.Option.the-variants.{Some, None}
+use Rattle.std.specs.declared.result.Result.{Result}
+use Rattle.std.specs.declared.result.Result.the-variants.{Ok, Err}
+use Rattle.faults.specs.declared.fault.Fault.{Fault}
+use Rattle.faults.specs.declared.kind.Kind.the-variants.{ItemMissing, BracketUnmatched}
+use Rattle.names.specs.Faults.{fault}
 use Rattle.names.specs.Machine.{run}
 use Rattle.names.specs.Words.{wordByte}
 use Rattle.lists.specs.Trees.{Sign, atom, group, open-bracket, close-bracket, star, bar}
-use Rattle.lists.specs.Bytes.{groupByte, signOf, part, Past}
+use Rattle.lists.specs.Bytes.{groupByte, blanks, signOf, part, Past}
 
 -- d brackets are open, and an item is due (true) or stands before (false)
 pub data At : Type 0 where
@@ -98,3 +104,12 @@ ListRead text from d (Some end) = (0 < d) × ((e : ℕ) → e < d → Leads text
 -- an item is read from one place to another, at any depth up to d
 abbrev pub ItemRead : List ℕ → ℕ → ℕ → ℕ → Type 0
 ItemRead text from end d = (from < end) × ((e : ℕ) (due : Bool) → e ≤ d → Leads text from end (within e due) (within e false))
+
+-- some byte of the text is not blank
+abbrev pub NotBlank : List ℕ → Type 0
+NotBlank text = (n : ℕ) → text ≡ blanks n → ⊥
+
+-- a `)`: without an open bracket it is unmatched; where an item is due, that is missing; else the bracket ends
+abbrev pub Closes : ℕ → ℕ → ℕ → Bool → Result (Option ℕ) Fault → Type 0
+Closes place end d due (Ok n) = (0 < d) × ((due ≡ false) × (n ≡ Some end))
+Closes place end d due (Err f) = ((d ≡ 0) × (f ≡ fault BracketUnmatched place)) ⊎ ((0 < d) × ((due ≡ true) × (f ≡ fault ItemMissing place)))

@@ -20,7 +20,7 @@ pub data Sign : Type 0 where
 
 -- Item = Atom, `(` List `)`, Item `*`, or `{` group name `}`
 -- Seq = Item, or Seq Item
--- List = Seq, or List `|` Seq
+-- List = Seq, or List `|` Seq; its type is `Alts`, for its alternatives
 mutual
   pub data Item : Type 0 where
     plain : Atom → Item

@@ -4,10 +4,9 @@ ghost use mathlib.Core.Bool.{true};
 ghost use Prim.Native.Nat.{_<_, _≤_};
 ghost use lib.ListN.{length, getD};
 ghost use Rattle.std.specs.Results.{Cases};
-ghost use Rattle.lists.specs.Bytes.{Marked};
-ghost use Rattle.lists.specs.Machine.{within, Leads, Enters, ListRead, ItemRead};
+ghost use Rattle.lists.specs.Machine.{Closes, NotBlank, within, Leads, Enters, ListRead, ItemRead};
 ghost use Rattle.lists.specs.Texts.{ListText};
-ghost use Rattle.lists.specs.Faults.{Slip, Closes};
+ghost use Rattle.lists.specs.Faults.{Slip};
 use super::MAX_DEPTH;
 use super::class::Class;
 use super::class::run_end;
@@ -31,7 +30,7 @@ pub(crate) fn check_list(text: &[u8]) -> Result<(), Fault>
 // Reads a list that stands within `depth` brackets. Answers the place after the bracket that closes it, or none
 // where the text ends.
 fn read_list(text: &[u8], start: usize, depth: usize) -> Result<Option<usize>, Fault>
-    requires marked { ⌜ Marked (now text) ⌝ }
+    requires marked { ⌜ NotBlank (now text) ⌝ }
     requires deep { ⌜ depth ≤ 16 ⌝ }
     requires enters { ⌜ Leads (now text) 0 start (within 0 true) (within depth true) ⌝ }
     ensures { λ r. ⌜ Cases r (λ n. ListRead (now (text .entry)) start depth n) (λ f. Slip (now (text .entry)) f) ⌝ }
@@ -85,7 +84,7 @@ fn close(lexeme: Lexeme<'_>, depth: usize, due: bool) -> Result<Option<usize>, F
 
 // Reads the bracket at a place, and answers the place after it.
 fn read_bracket(text: &[u8], place: usize, depth: usize) -> Result<usize, Fault>
-    requires marked { ⌜ Marked (now text) ⌝ }
+    requires marked { ⌜ NotBlank (now text) ⌝ }
     requires deep { ⌜ depth ≤ 16 ⌝ }
     requires inside { ⌜ place < length (now text) ⌝ }
     requires bracket { ⌜ getD (now text) place 0 ≡ 40 ⌝ }

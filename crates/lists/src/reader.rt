@@ -8,7 +8,7 @@ ghost use Rattle.std.specs.Options.{mapped, Cases as BySome};
 ghost use Rattle.std.specs.Results.{Cases};
 ghost use Rattle.names.specs.Words.{wordByte};
 ghost use Rattle.lists.specs.Bytes.{signOf};
-ghost use Rattle.lists.specs.Lexemes.{sign, Gap, TokenAt, Next, TokenFault, Passes};
+ghost use Rattle.lists.specs.Lexemes.{sign, Gap, TokenAt, Next, TokenFault, Passes, HandsOut};
 use super::class::Class;
 use super::class::run_end;
 use super::token::Lexeme;
@@ -115,7 +115,8 @@ pub struct Tokens<'a> {
 impl<'a> Tokens<'a> {
     /// A reader at the front of the text.
     pub fn new(text: &'a [u8]) -> Tokens<'a>
-        ensures { λ r. ⌜ (now (r .text) ≡ now (text .entry)) × (r .at ≡ 0) ⌝ }
+        ensures place { λ r. ⌜ (now (r .text) ≡ now (text .entry)) × (r .at ≡ 0) ⌝ }
+        ensures hands { λ _. ⌜ HandsOut (now (text .entry)) ⌝ }
     {
         Tokens { text, at: 0 }
     }

@@ -4,6 +4,8 @@ mod tests {
     use faults::fault::Fault;
     use names::name::Name;
     use names::name::PartialName;
+    use names::part::Part;
+    use names::part::PartsIterator;
     use names::path::Path;
     use std::test::*;
 
@@ -125,6 +127,35 @@ mod tests {
         check(name(&alternating::<255>(b'.'), 4, 63))
     }
 
+    // Whether the walk's next part is this word, or this mark by its byte, at this place.
+    fn is_part(next: Option<(usize, Part<'_>)>, bytes: &[u8], place: usize) -> bool {
+        match next {
+            Some((at, Part::Word(word))) => at == place && word == bytes,
+            Some((at, Part::Dot)) => at == place && bytes == b".",
+            Some((at, Part::At)) => at == place && bytes == b"@",
+            Some((at, Part::Plus)) => at == place && bytes == b"+",
+            None => false,
+        }
+    }
+
+    #[test]
+    fn parts_in_order() -> Result<(), Fail> {
+        let Ok(name) = Name::new(b"lock.up@ted+app") else {
+            return Err(Fail::new("refused"));
+        };
+        check(name.part_count() == 7)?;
+        let mut parts = name.parts();
+        check(is_part(parts.next(), b"lock", 0))?;
+        check(is_part(parts.next(), b".", 4))?;
+        check(is_part(parts.next(), b"up", 5))?;
+        check(is_part(parts.next(), b"@", 7))?;
+        check(is_part(parts.next(), b"ted", 8))?;
+        check(is_part(parts.next(), b"+", 11))?;
+        check(is_part(parts.next(), b"app", 12))?;
+        check(parts.next().is_none())?;
+        check(parts.next().is_none())
+    }
+
     #[test]
     fn words() -> Result<(), Fail> {
         check(Name::new(&[b'w'; 31]).is_ok())?;
@@ -142,6 +173,14 @@ mod tests {
         check(PartialName::new(b"lock.upper").is_ok())?;
         check(PartialName::new(&dotted::<63>()).is_ok())?;
         check(partial(&dotted::<64>(), 2, 64))?;
+        check(PartialName::new(
+            b"wwwwwwwwwwwwwwwwwwwwwwwwwwwwwwww.lower.upper.gate.raise.keeper.x",
+        ).is_ok())?;
+        check(partial(
+            b"wwwwwwwwwwwwwwwwwwwwwwwwwwwwwwww.lower.upper.gate.raise.keeper.xy",
+            4,
+            64,
+        ))?;
         check(PartialName::new(&alternating::<63>(b'.')).is_ok())?;
         check(partial(&[b'!'; 65], 4, 64))?;
         check(partial(b"a@b", 1, 1))?;
@@ -156,6 +195,16 @@ mod tests {
         check(path(b"/a/", 3))?;
         check(Path::new(b"/upper/gate-1").is_ok())?;
         check(path(b"/wwwwwwwwwwwwwwwwwwwwwwwwwwwwwwwww", 33))?;
+        check(Path::new(
+            b"/wwwwwwwwwwwwwwwwwwwwwwwwwwwwwwww/upper/lower/gates/gate1/raise",
+        ).is_ok())?;
+        check(Path::new(
+            b"/wwwwwwwwwwwwwwwwwwwwwwwwwwwwwwww/upper/lower/gates/gate1/raised",
+        ).is_ok())?;
+        check(path(
+            b"/wwwwwwwwwwwwwwwwwwwwwwwwwwwwwwww/upper/lower/gates/gate1/raised1",
+            64,
+        ))?;
         check(path(&[b'/'; 65], 64))?;
         check(path(&[b'/'; 64], 1))
     }

@@ -10,7 +10,7 @@ use Rattle.names.specs.Language.{Begins, Stuck}
 use Rattle.names.specs.Words.{Joined, countOf}
 use Rattle.names.specs.Names.{Part, spell, Partial, Steps, Spelled, IsName, LawfulName, LawfulPartial}
 use Rattle.names.specs.Faults.{fault, markByte, kindAt, NameFault, PartialFault, stuck, parts, stuck-partial}
-use Rattle.names.specs.Joints.{Slip, JointAt}
+use Rattle.names.specs.Joints.{Unjoined, JointAt}
 use Rattle.names.proofs.Forms.{dotByte, joined-name, name-joined, joined-partial, spelled-partial}
 use Rattle.names.proofs.Places.{alternates, count-parts, place-of}
 
@@ -24,7 +24,7 @@ stuck-same L M to from text place s = record {
 }
 
 module _ (text : List ℕ) where
-  pub name-slip : (f : Fault) → length text ≤ 255 → Slip markByte text f → NameFault text f
+  pub name-slip : (f : Fault) → length text ≤ 255 → Unjoined markByte text f → NameFault text f
   name-slip f le s = subst (NameFault text) (sym (s .told)) (stuck le (stuck-same (Joined markByte) (Spelled Steps) (λ t. joined-name) (λ t. name-joined) text (s .place) (s .stuck)))
 
   pub name-parts : (place : ℕ) → length text ≤ 255 → Joined markByte text → 31 < countOf markByte text → JointAt markByte text 31 place → NameFault text (fault NameTooLong place)
@@ -43,5 +43,5 @@ module _ (text : List ℕ) where
   pub parts-counted : (marks : ℕ) → marks ≡ countOf markByte text → (ps : List Part) → IsName text ps → 2 * marks + 1 ≡ length ps
   parts-counted marks e ps n = omega (arith, count-parts (alternates (n .form)), ap (countOf markByte) (n .spelling))
 
-  pub partial-slip : (f : Fault) → length text ≤ 64 → Slip dotByte text f → PartialFault text f
+  pub partial-slip : (f : Fault) → length text ≤ 64 → Unjoined dotByte text f → PartialFault text f
   partial-slip f le s = subst (PartialFault text) (sym (s .told)) (stuck-partial le (stuck-same (Joined dotByte) (Spelled Partial) (λ t. joined-partial) (λ t. spelled-partial) text (s .place) (s .stuck)))

@@ -19,7 +19,7 @@ use Rattle.names.specs.declared.joint.Joints.the-variants.{Marks, Dots, Slashe
 use Rattle.names.specs.Language.{Stuck}
 use Rattle.names.specs.Words.{wordByte, Joined}
 use Rattle.names.specs.Faults.{fault, markByte, kindOf, kindAt, wordDue}
-use Rattle.names.specs.Joints.{joins, Slip}
+use Rattle.names.specs.Joints.{joins, Unjoined}
 use Rattle.names.specs.Machine.{next}
 use Rattle.names.proofs.Machine.{run-more, blocked, ended}
 use Rattle.names.proofs.Chains.{step, reads, accepts, begins, chain-reads, due, step-word, step-join, step-full, step-due, step-other}
@@ -48,14 +48,14 @@ module _ (j : Joints) (text : List ℕ) where
       let b = getD text i 0 in
       ap (kindOf (take i text)) (drop-more text i 0 lt) ∙ ap (λ d. cond (wordByte b) WordTooLong (cond (markByte b && d) WordMissing ByteNotAllowed)) (due (joins j) (take i text) k h)
 
-  pub slip-here : (i k : ℕ) (f : Fault) → i < length text → reads (joins j) (take i text) ≡ Some k → step (joins j) k (getD text i 0) ≡ None → f ≡ fault (let b = getD text i 0 in cond (wordByte b) WordTooLong (cond (markByte b && eqb k 0) WordMissing ByteNotAllowed)) i → Slip (joins j) text f
+  pub slip-here : (i k : ℕ) (f : Fault) → i < length text → reads (joins j) (take i text) ≡ Some k → step (joins j) k (getD text i 0) ≡ None → f ≡ fault (let b = getD text i 0 in cond (wordByte b) WordTooLong (cond (markByte b && eqb k 0) WordMissing ByteNotAllowed)) i → Unjoined (joins j) text f
   slip-here i k f lt h s e = record {
     place = i;
     stuck = blocked (step (joins j)) 0 (Joined (joins j)) (accepts (joins j) (apart j)) (begins (joins j)) text i k lt h s;
     told = e ∙ ap (λ k. fault k i) (sym (kind-here i k lt h));
   }
 
-  pub slip-end : (f : Fault) → reads (joins j) text ≡ Some 0 → f ≡ fault WordMissing (length text) → Slip (joins j) text f
+  pub slip-end : (f : Fault) → reads (joins j) text ≡ Some 0 → f ≡ fault WordMissing (length text) → Unjoined (joins j) text f
   slip-end f h e = record {
     place = length text;
     stuck = ended (step (joins j)) 0 (Joined (joins j)) (accepts (joins j) (apart j)) (begins (joins j)) text 0 h (λ t. let r = chain-reads (joins j) (apart j) t in let z : r .0 ≡ 0 = same (r .0) 0 (sym (r .2) ∙ h) in omega (arith, r .1));

@@ -12,7 +12,7 @@ use Rattle.names.specs.Language.{Begins, Stuck}
 use Rattle.names.specs.Words.{wordByte, Word, Joined, lone, linked}
 use Rattle.names.specs.Paths.{IsPath, one, more}
 use Rattle.names.specs.Faults.{fault, PathFault, stuck-path}
-use Rattle.names.specs.Joints.{Slip}
+use Rattle.names.specs.Joints.{Unjoined}
 use Rattle.names.proofs.Forms.{slashByte}
 
 pub path-of : {t : List ℕ} → Joined slashByte t → IsPath (47 ∷ t)
@@ -42,7 +42,7 @@ path-stuck t p s = record {
   short = λ e m. s .short (omega arith) (joined-rest t m);
 }
 
-pub path-slip : (text t : List ℕ) (f : Fault) → text ≡ 47 ∷ t → length text ≤ 64 → Slip slashByte t f → PathFault text (fault PathUnlawful (f .place + 1))
+pub path-slip : (text t : List ℕ) (f : Fault) → text ≡ 47 ∷ t → length text ≤ 64 → Unjoined slashByte t f → PathFault text (fault PathUnlawful (f .place + 1))
 path-slip text t f e le s =
     let k : f .place ≡ s .place = ap (λ g. g .place) (s .told) in
     subst (λ p. PathFault text (fault PathUnlawful (p + 1))) (sym k) (stuck-path le (subst (λ u. Stuck IsPath u (s .place + 1)) (sym e) (path-stuck t (s .place) (s .stuck))))

@@ -1,8 +1,8 @@
 -- What stands at a place of a name where a part begins.
-use mathlib.Core.Path.{_≡_, refl, sym, ap, _∙_}
+use mathlib.Core.Path.{_≡_, refl, sym, ap, subst, _∙_}
 use mathlib.Core.Bool.{true, false, cond}
 use mathlib.Core.Logic.{⊎-elim}
-use mathlib.Core.List.{List, [], _∷_, _++_, append-nil}
+use mathlib.Core.List.{List, [], _∷_, _++_, append-assoc, append-nil}
 use Prim.Native.Nat.{ℕ, _+_, _-_, _<_, _≤_}
 use native.Mathlib.Omega.{arith}
 use borrow.Author.Tests.{clash, ne-eqb}
@@ -14,10 +14,10 @@ use Rattle.std.proofs.shelf.Tests.{cond-false, cases-order}
 use Rattle.std.specs.Holes.{between}
 use Rattle.std.specs.declared.option.Option.{Option}
 use Rattle.std.specs.declared.option.Option.the-variants.{Some, None}
-use Rattle.names.specs.declared.part.Part.{Part as Shown}
+use Rattle.names.specs.declared.part.Part.{Part as WalkedPart}
 use Rattle.names.specs.Words.{wordByte, WordBytes, Word}
-use Rattle.names.specs.Names.{Part, word, dot, at, plus, bytesOf, spell}
-use Rattle.names.specs.Parts.{partOf, WordEnd, Walks}
+use Rattle.names.specs.Names.{Part, word, dot, at, plus, bytesOf, spell, Steps}
+use Rattle.names.specs.Parts.{AtPart, partOf, WordEnd, Walks}
 use Rattle.names.proofs.Forms.{mark-apart, spell-append}
 use Rattle.names.proofs.Places.{Mark, Alternates, last, next, alternates, markOf, mark-of}
 
@@ -100,7 +100,7 @@ module _ (text : List ℕ) (place : ℕ) where
     mark-shown m back end (begun-mark b is) at-it le r =
         (ap markOf (mark-byte m b back is at-it) ∙ mark-of m b is, omega (arith, length-front front m, ap length (is .0)))
 
-  abbrev Step : Option (ℕ × Shown) → ℕ → Type 0
+  abbrev Step : Option (ℕ × WalkedPart) → ℕ → Type 0
   Step given place′ = Walks text place given text place′
 
   -- what each step gives
@@ -111,7 +111,7 @@ module _ (text : List ℕ) (place : ℕ) where
     end = λ _. (refl, refl);
   }
 
-  pub walks-word : (q : Shown) (end : ℕ) → place < end → WordEnd text place end → partOf q ≡ word (between place end text) → Step (Some (place, q)) end
+  pub walks-word : (q : WalkedPart) (end : ℕ) → place < end → WordEnd text place end → partOf q ≡ word (between place end text) → Step (Some (place, q)) end
   walks-word q end lt r is = record {
     kept = refl;
     part = λ front p back form e here.
@@ -120,7 +120,7 @@ module _ (text : List ℕ) (place : ℕ) where
     end = λ le. absurd (omega (arith, r .within));
   }
 
-  pub walks-mark : (q : Shown) (end : ℕ) → place < length text → end ≤ place → WordEnd text place end → partOf q ≡ markOf (getD text place 0) → Step (Some (place, q)) (place + 1)
+  pub walks-mark : (q : WalkedPart) (end : ℕ) → place < length text → end ≤ place → WordEnd text place end → partOf q ≡ markOf (getD text place 0) → Step (Some (place, q)) (place + 1)
   walks-mark q end lt le r is = record {
     kept = refl;
     part = λ front p back form e here.
@@ -128,3 +128,19 @@ module _ (text : List ℕ) (place : ℕ) where
         (refl, is ∙ shown .0, shown .1);
     end = λ past. absurd (omega arith);
   }
+
+  -- behind a part the walk stands at a part again
+  walk-on : (place′ : ℕ) → place < length text → ((front : List Part) (p : Part) (back : List Part) → Steps (front ++ (p ∷ back)) → spell (front ++ (p ∷ back)) ≡ text → place ≡ length (spell front) → place′ ≡ length (spell (front ++ (p ∷ [])))) → AtPart text place → AtPart text place′
+  walk-on place′ lt behind (front, back, (form, (e, here))) = on back form e
+    where
+      on : (bs : List Part) → Steps (front ++ bs) → spell (front ++ bs) ≡ text → AtPart text place′
+      on [] f h = absurd (omega (arith, here, ap length (ap spell (sym (append-nil front)) ∙ h)))
+      on (p ∷ bs) f h =
+          let join : (front ++ (p ∷ [])) ++ bs ≡ front ++ (p ∷ bs) = append-assoc front (p ∷ []) bs in
+          (front ++ (p ∷ []), bs, (subst Steps (sym join) f, (ap spell join ∙ h, behind front p bs f h here)))
+
+  pub word-on : (end : ℕ) → place < end → WordEnd text place end → AtPart text place → AtPart text end
+  word-on end lt r = walk-on end (omega (arith, r .within)) (λ front p back form e here. word-shown front p back end (begun front p back (alternates form)) (sym (spell-append front (p ∷ back)) ∙ e, here) lt r .1)
+
+  pub mark-on : (end : ℕ) → place < length text → end ≤ place → WordEnd text place end → AtPart text place → AtPart text (place + 1)
+  mark-on end lt le r = walk-on (place + 1) lt (λ front p back form e here. mark-shown front p back end (begun front p back (alternates form)) (sym (spell-append front (p ∷ back)) ∙ e, here) le r .1)

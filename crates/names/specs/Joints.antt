@@ -18,7 +18,7 @@ joins Dots b = eqb b 46
 joins Slashes b = eqb b 47
 
 -- the first byte at which the text is no longer words joined so, with the kind of fault there
-pub record Slip (takes : ℕ → Bool) (text : List ℕ) (f : Fault) : Type 0 where
+pub record Unjoined (takes : ℕ → Bool) (text : List ℕ) (f : Fault) : Type 0 where
   pub place : ℕ
   pub stuck : Stuck (Joined takes) text place
   pub told : f ≡ fault (kindAt text place) place

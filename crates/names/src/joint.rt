@@ -6,7 +6,7 @@ ghost use Rattle.std.specs.Results.{Cases};
 ghost use Rattle.faults.specs.declared.kind.Kind.the-variants.{ByteNotAllowed, WordMissing, WordTooLong};
 ghost use Rattle.names.specs.Words.{wordByte, Joined, countOf};
 ghost use Rattle.names.specs.Faults.{markByte};
-ghost use Rattle.names.specs.Joints.{joins, Slip, JointAt};
+ghost use Rattle.names.specs.Joints.{joins, Unjoined, JointAt};
 use super::word::MAX_WORD_BYTES;
 use super::word::is_word_byte;
 use faults::fault::Fault;
@@ -53,7 +53,7 @@ fn kind_of(b: u8, due: bool) -> Kind
 
 /// Reads joined words, and answers how many bytes join them.
 pub(crate) fn read_joined(text: &[u8], joints: Joints) -> Result<usize, Fault>
-    ensures { λ r. ⌜ Cases r (λ n. Joined (joins joints) (now (text .entry)) × (n ≡ countOf (joins joints) (now (text .entry)))) (λ f. Slip (joins joints) (now (text .entry)) f) ⌝ }
+    ensures { λ r. ⌜ Cases r (λ n. Joined (joins joints) (now (text .entry)) × (n ≡ countOf (joins joints) (now (text .entry)))) (λ f. Unjoined (joins joints) (now (text .entry)) f) ⌝ }
 {
     let mut count = 0;
     let mut letters = 0;

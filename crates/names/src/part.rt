@@ -1,7 +1,7 @@
 //! The parts of a name, in order.
 ghost use Prim.Native.Nat.{_-_, _≤_};
 ghost use lib.ListN.{length};
-ghost use Rattle.names.specs.Parts.{WordEnd, Walks};
+ghost use Rattle.names.specs.Parts.{AtPart, WordEnd, Walks};
 use super::word::is_word_byte;
 
 /// A word of a name, or a mark.
@@ -18,6 +18,7 @@ pub enum Part<'a> {
 pub struct Parts<'a> {
     pub(crate) text: &'a [u8],
     pub(crate) at: usize,
+    ghost stands: { ∥ AtPart (text .now) at ∥₁ },
 }
 
 // Where the word bytes from a place on end.

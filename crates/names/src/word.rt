@@ -3,7 +3,6 @@ ghost use mathlib.Core.Path.{_≡_};
 ghost use mathlib.Core.Bool.{_&&_, _||_};
 ghost use lib.Dec.{leb};
 ghost use Rattle.names.specs.Words.{wordByte};
-ghost use Rattle.names.specs.Faults.{markByte};
 
 /// The most bytes that a word has.
 pub const MAX_WORD_BYTES: usize = 32;

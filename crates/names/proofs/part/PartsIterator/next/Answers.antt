@@ -1,11 +1,22 @@
 use mathlib.Core.Path.{_≡_, refl, sym, ap, _∙_}
+use mathlib.Core.Logic.{∥∥₁-map}
 use native.Mathlib.Omega.{arith}
 use lib.ListN.{getD}
 use Rattle.names.specs.Parts.{partOf}
 use Rattle.names.proofs.Places.{markOf}
-use Rattle.names.proofs.Walking.{other-mark, walks-end, walks-word, walks-mark}
+use Rattle.names.proofs.Walking.{other-mark, walks-end, walks-word, walks-mark, word-on, mark-on}
 use Rattle.names.proofs.part.PartsIterator.next.Needs as need
 use Rattle.names.proofs.part.PartsIterator.next.Needs.{in-46, in-64, in-rest}
+
+pub ghost-self : need.ghost-self
+ghost-self c =
+    let self = c .args .self .now in
+    (∥∥₁-map (self .stands) (word-on (self .text .now) (self .at) (c .word-end-end .result) (c .if-end-place .taken) (c .word-end-end .ensures)), tt)
+
+pub ghost-self-2 : need.ghost-self-2
+ghost-self-2 c =
+    let self = c .args .self .now in
+    (∥∥₁-map (self .stands) (mark-on (self .text .now) (self .at) (c .word-end-end .result) (c .if-place-text .left) (c .if-end-place .left) (c .word-end-end .ensures)), tt)
 
 pub returns-then-place-text : need.returns-then-place-text
 returns-then-place-text c =
