@@ -15,7 +15,7 @@ use Rattle.faults.specs.declared.kind.Kind.the-variants.{WordTooLongInList, Gro
 use Rattle.names.specs.Words.{wordByte, WordBytes}
 use Rattle.names.specs.Faults.{fault}
 use Rattle.lists.specs.Trees.{Sign, atom, word, group}
-use Rattle.lists.specs.Bytes.{groupByte, GroupName, blanks, signOf, part, Past, Run}
+use Rattle.lists.specs.Bytes.{groupByte, IsGroupName, blanks, signOf, part, Past, Run}
 use Rattle.lists.specs.Tokens.{Shows, shows-word, shows-mark, shows-group}
 use Rattle.lists.specs.Lexemes.{Gap, isBlank, isClosing, TokenAt, TokenFault, long-word, no-name, long-name, no-brace}
 use Rattle.lists.proofs.Segments.{part-length, part-join, part-one, past-byte, past-end, past-at, all-blanks, every-append}
@@ -55,7 +55,7 @@ module _ (text : List ℕ) where
       name-long many = long-name gap inside brace before (omega (arith, names .within)) (run-front groupByte start end (start + 33) (omega arith) (omega arith) names)
 
       module _ (some : end ≡ start → ⊥) (few : end - start ≤ 32) where
-        is-name : GroupName (part text start end)
+        is-name : IsGroupName (part text start end)
         is-name =
             let long = part-length text start end (names .forward) (names .within) in
             record { some = omega (arith, long, names .forward); few = omega (arith, long); bytes = names .bytes }

@@ -15,3 +15,4 @@ pub mod Slips
 pub mod Whole
 pub mod OneFault
 pub mod Handing
+pub mod Grouping

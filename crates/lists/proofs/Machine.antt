@@ -15,7 +15,7 @@ use Rattle.std.specs.declared.option.Option.the-variants.{Some, None}
 use Rattle.names.specs.Words.{wordByte, WordBytes, Word}
 use Rattle.names.proofs.Machine.{run-append, run-none}
 use Rattle.lists.specs.Trees.{Sign, atom, dot, at, plus, any, group, open-bracket, close-bracket, star, bar}
-use Rattle.lists.specs.Bytes.{groupByte, GroupName, blanks, signOf, Past}
+use Rattle.lists.specs.Bytes.{groupByte, IsGroupName, blanks, signOf, Past}
 use Rattle.lists.specs.Tokens.{Shows, shows-word, shows-mark, shows-group, Spells, ends, next}
 use Rattle.lists.specs.Machine.{At, within, sign-step, State, out, word, brace, name, braced, item, lift, signed, out-step, braced-step, byte-step, reads}
 use Rattle.lists.proofs.Signs.{sign-run, sign-run-none}
@@ -124,7 +124,7 @@ reads-name a (b ∷ g) k bs le =
     ∙ reads-name a g (k + 1) (bs .1) (omega arith)
     ∙ ap (λ n. Some (name a n)) (omega arith)
 
-pub brace-reads-name : (a : At) (g : List ℕ) → GroupName g → reads (Some (brace a)) g ≡ Some (name a (length g))
+pub brace-reads-name : (a : At) (g : List ℕ) → IsGroupName g → reads (Some (brace a)) g ≡ Some (name a (length g))
 brace-reads-name a [] h = absurd (omega (arith, h .some))
 brace-reads-name a (b ∷ g) h =
     ap (λ o. reads o g) (cond-false _ _ _ (ne-eqb b 32 (λ e. clash (sym blank-ungrouped ∙ ap groupByte (sym e) ∙ h .bytes .0))) ∙ cond-true _ _ _ (h .bytes .0))
@@ -139,7 +139,7 @@ name-reads-blanks a k (suc n) rest =
     ∙ reads-append (Some (braced a)) (blanks n) (125 ∷ rest)
     ∙ ap (λ o. reads o (125 ∷ rest)) (reads-blanks (braced a) refl n)
 
-pub reads-group : (a : At) (g rest : List ℕ) (x y : ℕ) → GroupName g → reads (Some (out a)) (123 ∷ (blanks x ++ (g ++ (blanks y ++ (125 ∷ rest))))) ≡ reads (Some (out (item a))) rest
+pub reads-group : (a : At) (g rest : List ℕ) (x y : ℕ) → IsGroupName g → reads (Some (out a)) (123 ∷ (blanks x ++ (g ++ (blanks y ++ (125 ∷ rest))))) ≡ reads (Some (out (item a))) rest
 reads-group a g rest x y h =
     let c = item a in
     ap (λ o. reads o (blanks x ++ (g ++ (blanks y ++ (125 ∷ rest))))) (out-brace a)

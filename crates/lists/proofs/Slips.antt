@@ -20,7 +20,7 @@ use Rattle.faults.specs.declared.kind.Kind.the-variants.{ByteNotAllowedInList, 
 use Rattle.names.specs.Words.{wordByte, Word}
 use Rattle.names.specs.Faults.{fault}
 use Rattle.lists.specs.Trees.{Sign, atom, word as word-atom, dot, at, plus, any, group, open-bracket, close-bracket, star, bar}
-use Rattle.lists.specs.Bytes.{groupByte, GroupName, blanks, signOf, part, Past}
+use Rattle.lists.specs.Bytes.{groupByte, IsGroupName, blanks, signOf, part, Past}
 use Rattle.lists.specs.Tokens.{Shows, shows-word, shows-mark, shows-group}
 use Rattle.lists.specs.declared.token.Token.{Token}
 use Rattle.lists.specs.declared.token.Token.the-variants.{Word as Token-Word, Dot, At as Token-At, Plus, Any, Open, Close, Star, Bar, Group}
@@ -178,7 +178,7 @@ module _ (text : List ℕ) (marked : NotBlank text) where
   token-slip from a f p (long-name {p = q} {x = x} g lt is blank l bs) =
       let parts = last-byte (λ b. groupByte b ≡ true) x l bs in
       let long = part-length text x (x + 32) (omega arith) (omega arith) in
-      let is-name : GroupName (part text x (x + 32)) = record { some = omega (arith, long); few = omega (arith, long); bytes = parts .0 } in
+      let is-name : IsGroupName (part text x (x + 32)) = record { some = omega (arith, long); few = omega (arith, long); bytes = parts .0 } in
       braced-slip from (x + 32) a p
       (record {
         forward = omega (arith, g .forward, blank .forward);

@@ -16,7 +16,7 @@ use Rattle.std.specs.declared.option.Option.{Option}
 use Rattle.std.specs.declared.option.Option.the-variants.{Some, None}
 use Rattle.names.specs.Words.{wordByte, WordBytes, Word}
 use Rattle.lists.specs.Trees.{Sign, atom, word as word-atom, group}
-use Rattle.lists.specs.Bytes.{groupByte, GroupName, blanks, signOf, Past}
+use Rattle.lists.specs.Bytes.{groupByte, IsGroupName, blanks, signOf, Past}
 use Rattle.lists.specs.Tokens.{Shows, shows-word, shows-mark, shows-group, Spells, ends, next}
 use Rattle.lists.specs.Machine.{At, within, sign-step, State, out, word, brace, name, braced, item, lift, signed, out-step, braced-step, byte-step, reads}
 use Rattle.lists.proofs.Signs.{sign-run}
@@ -46,7 +46,7 @@ record NameOn (g t : List ℕ) (a c : At) : Type 0 where
   blank : ℕ
   rest : List ℕ
   split : t ≡ more ++ (blanks blank ++ (125 ∷ rest))
-  is-name : GroupName (g ++ more)
+  is-name : IsGroupName (g ++ more)
   tail : Spelled rest a c
 
 record BraceOn (t : List ℕ) (a c : At) : Type 0 where
@@ -55,7 +55,7 @@ record BraceOn (t : List ℕ) (a c : At) : Type 0 where
   blank : ℕ
   rest : List ℕ
   split : t ≡ blanks before ++ (group-name ++ (blanks blank ++ (125 ∷ rest)))
-  is-name : GroupName group-name
+  is-name : IsGroupName group-name
   tail : Spelled rest a c
 
 record BracedOn (t : List ℕ) (a c : At) : Type 0 where
@@ -148,11 +148,11 @@ name-more b t h a c g k bs e some few =
     (λ isg. cond-both (ltb k 32) _ _ P
     (λ room l.
     let r = h .from-name a c (g ++ (b ∷ [])) (k + 1) (every-snoc (λ x. groupByte x ≡ true) g b bs isg) (length-push g b ∙ ap (λ n. n + 1) e) (omega arith) (omega (arith, ltb-true k 32 room)) l in
-    record { more = b ∷ r .more; blank = r .blank; rest = r .rest; split = ap (λ u. b ∷ u) (r .split); is-name = subst GroupName (append-assoc g (b ∷ []) (r .more)) (r .is-name); tail = r .tail })
+    record { more = b ∷ r .more; blank = r .blank; rest = r .rest; split = ap (λ u. b ∷ u) (r .split); is-name = subst IsGroupName (append-assoc g (b ∷ []) (r .more)) (r .is-name); tail = r .tail })
     (λ _ l. absurd (lands-none t c l)))
     (λ _ l.
     let r = braced-more b t h a c l in
-    record { more = []; blank = r .blank; rest = r .rest; split = r .split; is-name = subst GroupName (sym (append-nil g)) (record { some = omega arith; few = omega arith; bytes = bs }); tail = r .tail })
+    record { more = []; blank = r .blank; rest = r .rest; split = r .split; is-name = subst IsGroupName (sym (append-nil g)) (record { some = omega arith; few = omega arith; bytes = bs }); tail = r .tail })
 
 brace-more : (b : ℕ) (t : List ℕ) → Sound t → (a c : At) → Lands (reads (byte-step (brace a) b) t) c → BraceOn (b ∷ t) a c
 brace-more b t h a c =

@@ -82,7 +82,7 @@ letter : wordByte 97 ≡ true
 unfolding wordByte
 letter = refl
 
-group-letter : groupByte 97 ≡ true
+pub group-letter : groupByte 97 ≡ true
 unfolding groupByte wordByte
 group-letter = refl
 

@@ -16,7 +16,7 @@ unfoldable pub groupByte : ℕ → Bool
 groupByte b = wordByte b || eqb b 36 || eqb b 47 || eqb b 46
 
 -- a group name is 1 to 32 of them
-pub record GroupName (g : List ℕ) : Type 0 where
+pub record IsGroupName (g : List ℕ) : Type 0 where
   pub some : 0 < length g
   pub few : length g ≤ 32
   pub bytes : Every (λ b. groupByte b ≡ true) g

@@ -18,7 +18,7 @@ use Rattle.lists.specs.declared.token.Token.{Token}
 use Rattle.lists.specs.declared.token.Token.the-variants.{Word, Dot, At, Plus, Any, Open, Close, Star, Bar, Group}
 use Rattle.lists.specs.declared.token.Lexeme.{Lexeme}
 use Rattle.lists.specs.Trees.{Sign, atom, word, dot, at, plus, any, group, open-bracket, close-bracket, star, bar}
-use Rattle.lists.specs.Bytes.{groupByte, GroupName, signOf, part, Past, Run}
+use Rattle.lists.specs.Bytes.{groupByte, IsGroupName, signOf, part, Past, Run}
 use Rattle.lists.specs.Tokens.{Shows, Spells}
 
 -- the sign that a token is
@@ -66,7 +66,7 @@ pub data TokenFault (text : List ℕ) (from : ℕ) : Fault → Type 0 where
   long-word : {p : ℕ} → Gap text from p → p + 32 < length text → WordBytes (part text p (p + 33)) → TokenFault text from (fault WordTooLongInList (p + 32))
   no-name : {p x : ℕ} → Gap text from p → p < length text → getD text p 0 ≡ 123 → Gap text (p + 1) x → Past groupByte (drop x text) → TokenFault text from (fault GroupNameUnlawful x)
   long-name : {p x : ℕ} → Gap text from p → p < length text → getD text p 0 ≡ 123 → Gap text (p + 1) x → x + 32 < length text → Every (λ b. groupByte b ≡ true) (part text x (x + 33)) → TokenFault text from (fault GroupNameUnlawful (x + 32))
-  no-brace : {p x e y : ℕ} → Gap text from p → p < length text → getD text p 0 ≡ 123 → Gap text (p + 1) x → x ≤ e → GroupName (part text x e) → Past groupByte (drop e text) → Gap text e y → Past isClosing (drop y text) → TokenFault text from (fault GroupNameUnlawful y)
+  no-brace : {p x e y : ℕ} → Gap text from p → p < length text → getD text p 0 ≡ 123 → Gap text (p + 1) x → x ≤ e → IsGroupName (part text x e) → Past groupByte (drop e text) → Gap text e y → Past isClosing (drop y text) → TokenFault text from (fault GroupNameUnlawful y)
 
 -- the next token, or none where only blanks are left
 abbrev pub Next : List ℕ → ℕ → Option Lexeme → Type 0

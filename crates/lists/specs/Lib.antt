@@ -6,3 +6,4 @@ pub mod Tokens
 pub mod Lexemes
 pub mod Texts
 pub mod Faults
+pub mod GroupNames

@@ -1,6 +1,7 @@
 //! Access lists: their tokens, and the check that a text is a lawful list.
 mod check;
 mod class;
+pub mod group_name;
 pub mod list;
 pub mod reader;
 pub mod token;
