@@ -23,18 +23,18 @@ text-keep p (e ∷ es) name =
     let P : Bool → Type 0 = λ b. textOf (cond b (e ∷ keep p es) (keep p es)) name ≡ cond (p name) (textOf (e ∷ es) name) None in
     ⊎-elim
     (λ same.
-        let is = sameBytes-decides (e .name) name .0 same in
-        let found : textOf (e ∷ es) name ≡ Some (e .text) = cond-true _ _ _ same in
-        ⊎-elim
-        (λ pass. subst P (sym (ap p is ∙ pass)) (cond-true _ _ _ same ∙ sym found ∙ sym (cond-true _ _ _ pass)))
-        (λ fail. subst P (sym (ap p is ∙ fail)) (text-keep p es name ∙ cond-false _ _ _ fail ∙ sym (cond-false _ _ _ fail)))
-        (cases-bool (p name)))
+    let is = sameBytes-decides (e .name) name .0 same in
+    let found : textOf (e ∷ es) name ≡ Some (e .text) = cond-true _ _ _ same in
+    ⊎-elim
+    (λ pass. subst P (sym (ap p is ∙ pass)) (cond-true _ _ _ same ∙ sym found ∙ sym (cond-true _ _ _ pass)))
+    (λ fail. subst P (sym (ap p is ∙ fail)) (text-keep p es name ∙ cond-false _ _ _ fail ∙ sym (cond-false _ _ _ fail)))
+    (cases-bool (p name)))
     (λ other.
-        let rest : cond (p name) (textOf es name) None ≡ cond (p name) (textOf (e ∷ es) name) None = ap (λ x. cond (p name) x None) (sym (cond-false _ _ _ other)) in
-        ⊎-elim
-        (λ pass. subst P (sym pass) (cond-false _ _ _ other ∙ text-keep p es name ∙ rest))
-        (λ fail. subst P (sym fail) (text-keep p es name ∙ rest))
-        (cases-bool (p (e .name))))
+    let rest : cond (p name) (textOf es name) None ≡ cond (p name) (textOf (e ∷ es) name) None = ap (λ x. cond (p name) x None) (sym (cond-false _ _ _ other)) in
+    ⊎-elim
+    (λ pass. subst P (sym pass) (cond-false _ _ _ other ∙ text-keep p es name ∙ rest))
+    (λ fail. subst P (sym fail) (text-keep p es name ∙ rest))
+    (cases-bool (p (e .name))))
     (cases-bool (sameBytes (e .name) name))
 
 -- the second table counts where the first lacks the name

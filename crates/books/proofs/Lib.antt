@@ -1,1 +1,3 @@
 pub mod Dividing
+pub mod Lookups
+pub mod Changing

@@ -26,7 +26,7 @@ textOf (e ∷ es) name = cond (sameBytes (e .name) name) (Some (e .text)) (textO
 
 -- names are lawful, and texts have at most 4095 bytes, of any content
 pub record LawfulEntry (e : Entry) : Type 0 where
-  pub named : IsGroupName (e .name)
+  pub named : ∥ IsGroupName (e .name) ∥₁
   pub short : length (e .text) ≤ 4095
 
 abbrev pub LawfulTable : Table → Type 0

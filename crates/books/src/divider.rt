@@ -18,7 +18,11 @@ impl<A: Book, B: Book> Divider<A, B> {
     pub fn new(first: A, second: B, byte: u8) -> Divider<A, B>
         ensures { λ r. ⌜ (r .first ≡ first) × (r .second ≡ second) × (r .byte ≡ byte) ⌝ }
     {
-        Divider { first, second, byte }
+        Divider {
+            first,
+            second,
+            byte,
+        }
     }
 
     // Whether a name goes to the first book.
@@ -35,10 +39,18 @@ pub impl<A: Book, B: Book> Book for Divider<A, B> as DividerBook {
     ghost lawful = { λ d. divided-lawful (d .byte) (A·Book .table (d .first)) (B·Book .table (d .second)) (A·Book .lawful (d .first)) (B·Book .lawful (d .second)) };
 
     fn text_len(&self, name: &[u8]) -> Option<usize> {
-        if self.is_first(name) { self.first.text_len(name) } else { self.second.text_len(name) }
+        if self.is_first(name) {
+            self.first.text_len(name)
+        } else {
+            self.second.text_len(name)
+        }
     }
 
     fn copy_text(&self, name: &[u8], buffer: &mut [u8]) -> Result<usize, NotCopied> {
-        if self.is_first(name) { self.first.copy_text(name, buffer) } else { self.second.copy_text(name, buffer) }
+        if self.is_first(name) {
+            self.first.copy_text(name, buffer)
+        } else {
+            self.second.copy_text(name, buffer)
+        }
     }
 }

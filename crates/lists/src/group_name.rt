@@ -34,6 +34,13 @@ impl GroupName {
         Ok(GroupName { text: held })
     }
 
+    /// The group name as a text.
+    pub fn as_text(&self) -> &Text<MAX_GROUP_NAME_BYTES>
+        ensures { λ r. ⌜ now r ≡ now (self .entry) .text ⌝ }
+    {
+        &self.text
+    }
+
     /// The bytes of the group name.
     pub fn as_bytes(&self) -> &[u8]
         ensures { λ r. ⌜ now r ≡ shown (now (self .entry) .text) ⌝ }

@@ -1,4 +1,7 @@
 //! Rehearses the script on standard input: each call gives one line on standard output.
+use books::row::Group;
+use books::table::TABLE_ROWS;
+use books::table::TableBook;
 use faults::fault::Fault;
 use lists::list::AccessList;
 use names::name::Name;
@@ -36,24 +39,28 @@ fn answer_check(out: &mut impl Write, word: &str, fault: Option<Fault>) -> io::R
     }
 }
 
-fn answer(out: &mut impl Write, line: &[u8]) -> io::Result<()> {
+fn answer(out: &mut impl Write, book: &mut TableBook<'_>, line: &[u8]) -> io::Result<()> {
     match read_line(line) {
         Line::Silent => Ok(()),
         Line::Name(text) => answer_name(out, text),
         Line::Path(text) => answer_check(out, "path", Path::new(text).err()),
         Line::List(text) => answer_check(out, "list", AccessList::new(text).err()),
+        Line::Group(name, text) => answer_check(out, "group", book.add(name, text).err()),
+        Line::Ungroup(name) => answer_check(out, "ungroup", book.remove(name).err()),
         Line::NotUnderstood => writeln!(out, "not understood"),
     }
 }
 
 // The last line need not end in a line end.
 fn rehearse(out: &mut impl Write, script: &[u8]) -> io::Result<()> {
+    let mut rows = [Group::spare(); TABLE_ROWS];
+    let mut book = TableBook::new(&mut rows);
     let mut rest = script;
     while let Some((line, after)) = cut_at(rest, LINE_END) {
-        answer(out, line)?;
+        answer(out, &mut book, line)?;
         rest = after;
     }
-    answer(out, rest)
+    answer(out, &mut book, rest)
 }
 
 fn main(rt: LibcRuntime) -> io::Result<()> {

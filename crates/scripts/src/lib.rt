@@ -33,8 +33,11 @@ pub fn read_line(line: &[u8]) -> Line<'_>
     let Some((word, fields)) = cut_at(line, TAB) else {
         return Line::NotUnderstood;
     };
-    match cut_at(fields, TAB) {
-        None => one_field(word, fields),
+    let Some((first, rest)) = cut_at(fields, TAB) else {
+        return one_field(word, fields);
+    };
+    match cut_at(rest, TAB) {
+        None => two_fields(word, first, rest),
         Some(_) => Line::NotUnderstood,
     }
 }
@@ -49,6 +52,19 @@ fn one_field<'a>(word: &[u8], field: &'a [u8]) -> Line<'a>
         Line::Path(field)
     } else if same(word, b"list") {
         Line::List(field)
+    } else if same(word, b"ungroup") {
+        Line::Ungroup(field)
+    } else {
+        Line::NotUnderstood
+    }
+}
+
+// The call of that word with two fields.
+fn two_fields<'a>(word: &[u8], first: &'a [u8], second: &'a [u8]) -> Line<'a>
+    ensures { λ r. ⌜ Understood (λ line. parts line ≡ now (word .entry) ∷ now (first .entry) ∷ now (second .entry) ∷ []) r ⌝ }
+{
+    if same(word, b"group") {
+        Line::Group(first, second)
     } else {
         Line::NotUnderstood
     }

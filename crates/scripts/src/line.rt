@@ -8,4 +8,7 @@ pub enum Line<'a> {
     Name(&'a [u8]),
     Path(&'a [u8]),
     List(&'a [u8]),
+    /// A group name and the group's text.
+    Group(&'a [u8], &'a [u8]),
+    Ungroup(&'a [u8]),
 }

@@ -7,4 +7,5 @@ pub struct Text<const N: usize> {
     pub(crate) bytes: [u8; N],
     pub(crate) len: usize,
     ghost fits: { len ≤ length bytes },
+    ghost bounded: { len ≤ N },
 }

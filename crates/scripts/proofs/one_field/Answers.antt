@@ -13,6 +13,9 @@ returns-then-same-2 c = this (cc (c .if-same-2 .ensures tt .0 refl))
 pub returns-then-same-3 : need.returns-then-same-3
 returns-then-same-3 c = this (cc (c .if-same-3 .ensures tt .0 refl))
 
-pub returns-else-same-3 : need.returns-else-same-3
-returns-else-same-3 c =
-    none (no-call _ _ (λ e. false≢true (c .if-same .ensures tt .1 e)) (λ e. false≢true (c .if-same-2 .ensures tt .1 e)) (λ e. false≢true (c .if-same-3 .ensures tt .1 e)))
+pub returns-then-same-4 : need.returns-then-same-4
+returns-then-same-4 c = this (cc (c .if-same-4 .ensures tt .0 refl))
+
+pub returns-else-same-4 : need.returns-else-same-4
+returns-else-same-4 c =
+    none (no-call _ _ (λ e. false≢true (c .if-same .ensures tt .1 e)) (λ e. false≢true (c .if-same-2 .ensures tt .1 e)) (λ e. false≢true (c .if-same-3 .ensures tt .1 e)) (λ e. false≢true (c .if-same-4 .ensures tt .1 e)))

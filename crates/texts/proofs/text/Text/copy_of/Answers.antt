@@ -40,4 +40,4 @@ pub ghost-result : need.ghost-result
 ghost-result g c =
     let bytes = c .args .bytes .now in
     let whole = c .loop-i .inv ∙ ap (padded (g .N)) (take-all (c .loop-i .i) bytes (c .loop-i-test .left)) in
-    (omega (arith, ap length whole, padded-length (g .N) bytes (c .if-len .left), c .if-len .left), tt)
+    (omega (arith, ap length whole, padded-length (g .N) bytes (c .if-len .left), c .if-len .left), (c .if-len .left, tt))
