@@ -36,7 +36,7 @@ pub struct Gates<'a> {
 
 impl<'a> Gates<'a> {
     /// No gate, with room for as many as there are rows.
-    pub fn new(rows: &'a mut [Gate]) -> Gates<'a>
+    pub(crate) fn new(rows: &'a mut [Gate]) -> Gates<'a>
         ensures { λ r. ⌜ inUse (r .gates) ≡ [] ⌝ }
     {
         Gates {
@@ -45,14 +45,14 @@ impl<'a> Gates<'a> {
     }
 
     /// The gates, in rising order of their numbers.
-    pub fn rows(&self) -> &[Gate]
+    pub(crate) fn rows(&self) -> &[Gate]
         ensures { λ r. ⌜ now r ≡ inUse (now (self .entry) .gates) ⌝ }
     {
         self.gates.in_use()
     }
 
     /// The gate with the number.
-    pub fn find(&self, number: u32) -> Option<Gate>
+    pub(crate) fn find(&self, number: u32) -> Option<Gate>
         ensures { λ r. ⌜ r ≡ found numbered (inUse (now (self .entry) .gates)) (number ∷ []) ⌝ }
     {
         match self.gates.find(&number) {
@@ -62,14 +62,14 @@ impl<'a> Gates<'a> {
     }
 
     /// Puts a gate in its place.
-    pub fn put(&mut self, gate: Gate) -> Result<(), Full>
+    pub(crate) fn put(&mut self, gate: Gate) -> Result<(), Full>
         ensures { λ r. ⌜ Cases r (λ _. Puts numbered gate (now (self .entry) .gates) (now (self .exit) .gates)) (λ _. Refuses numbered gate (now (self .entry) .gates)) ⌝ }
     {
         self.gates.put(gate)
     }
 
     /// Takes a gate out.
-    pub fn remove(&mut self, number: u32) -> Option<Gate>
+    pub(crate) fn remove(&mut self, number: u32) -> Option<Gate>
         ensures { λ r. ⌜ Removes numbered (number ∷ []) (now (self .entry) .gates) (now (self .exit) .gates) r ⌝ }
     {
         self.gates.remove(&number)

@@ -143,7 +143,10 @@ mod tests {
 
     // How often the program was started, or 0 where there is none of that name.
     fn starts(programs: &Programs<'_>, name: &[u8]) -> u32 {
-        programs.starts(&program(name, 0).name).unwrap_or(0)
+        match programs.find(&program(name, 0).name) {
+            Some(program) => program.starts,
+            None => 0,
+        }
     }
 
     // Puts a program, and says whether there was room.

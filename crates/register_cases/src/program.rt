@@ -1,6 +1,10 @@
 //! Programs, by name.
-ghost use Rattle.registers.specs.Rows.{Rising};
-ghost use Rattle.registers.specs.Registers.{inUse};
+ghost use mathlib.Core.Path.{_≡_};
+ghost use mathlib.Core.List.{[]};
+ghost use Rattle.std.specs.Results.{Cases};
+ghost use Rattle.texts.specs.Shown.{shown};
+ghost use Rattle.registers.specs.Rows.{Rising, found};
+ghost use Rattle.registers.specs.Registers.{inUse, Puts, Refuses, Removes};
 ghost use Rattle.register_cases.specs.Programs.{named};
 use registers::key::TextKey;
 use registers::record::Record;
@@ -34,27 +38,35 @@ pub struct Programs<'a> {
 
 impl<'a> Programs<'a> {
     /// No program, with room for as many as there are rows.
-    pub fn new(rows: &'a mut [Program]) -> Programs<'a> {
+    pub(crate) fn new(rows: &'a mut [Program]) -> Programs<'a>
+        ensures { λ r. ⌜ inUse (r .programs) ≡ [] ⌝ }
+    {
         Programs {
             programs: Register::new(rows),
         }
     }
 
-    /// How often the program was started.
-    pub fn starts(&self, name: &Text<8>) -> Option<u32> {
+    /// The program of the name.
+    pub(crate) fn find(&self, name: &Text<8>) -> Option<Program>
+        ensures { λ r. ⌜ r ≡ found named (inUse (now (self .entry) .programs)) (shown (now (name .entry))) ⌝ }
+    {
         match self.programs.find(name) {
-            Some(program) => Some(program.starts),
+            Some(program) => Some(*program),
             None => None,
         }
     }
 
     /// Puts a program in its place.
-    pub fn put(&mut self, program: Program) -> Result<(), Full> {
+    pub(crate) fn put(&mut self, program: Program) -> Result<(), Full>
+        ensures { λ r. ⌜ Cases r (λ _. Puts named program (now (self .entry) .programs) (now (self .exit) .programs)) (λ _. Refuses named program (now (self .entry) .programs)) ⌝ }
+    {
         self.programs.put(program)
     }
 
     /// Takes a program out.
-    pub fn remove(&mut self, name: &Text<8>) -> Option<Program> {
+    pub(crate) fn remove(&mut self, name: &Text<8>) -> Option<Program>
+        ensures { λ r. ⌜ Removes named (shown (now (name .entry))) (now (self .entry) .programs) (now (self .exit) .programs) r ⌝ }
+    {
         self.programs.remove(name)
     }
 }
