@@ -37,7 +37,8 @@ pub struct TableBook<'a> {
 impl<'a> TableBook<'a> {
     /// An empty book over the rows that it is lent.
     pub fn new(rows: &'a mut [Group; TABLE_ROWS]) -> TableBook<'a>
-        ensures { λ r. ⌜ tableOf (inUse (r .groups)) ≡ [] ⌝ }
+        ensures none { λ r. ⌜ tableOf (inUse (r .groups)) ≡ [] ⌝ }
+        ensures memory { λ r. ⌜ r .groups .rows .now ≡ now (rows .entry) ⌝ }
     {
         TableBook {
             groups: Register::new(rows),
