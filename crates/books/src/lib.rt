@@ -1,4 +1,6 @@
 //! Books of groups: what a book means, and the books there are.
+#![tactic(auto)]
+
 pub mod book;
 mod changes;
 pub mod divider;

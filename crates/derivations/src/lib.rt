@@ -1,4 +1,6 @@
 //! What an access list derives, and worked cases of it.
+#![tactic(auto)]
+
 ghost use Rattle.std.specs.Prelude.{◌≡◌, length};
 ghost use Rattle.std.specs.List.{AllByRecursion};
 ghost use Rattle.derivations.specs.Cases.{Holds, cases};

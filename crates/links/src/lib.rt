@@ -1,4 +1,6 @@
 //! Links between numbered groups: which group names which, and what leads where.
+#![tactic(auto)]
+
 mod closing;
 mod links;
 mod naming;

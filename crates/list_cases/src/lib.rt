@@ -1,4 +1,6 @@
 //! List texts at their limits and at every byte, and the tokens of a text, as tests.
+#![tactic(auto)]
+
 #[cfg(test)]
 mod tests {
     use faults::fault::Fault;

@@ -1,4 +1,6 @@
 //! Access lists: their tokens, and the check that a text is a lawful list.
+#![tactic(auto)]
+
 mod check;
 mod class;
 pub mod group_name;

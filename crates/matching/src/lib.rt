@@ -1,4 +1,6 @@
 //! Judging texts against a name: between which places of the name a list derives what stands there.
+#![tactic(auto)]
+
 mod derive;
 mod groups;
 mod held;

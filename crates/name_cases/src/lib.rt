@@ -1,4 +1,6 @@
 //! Names, partial names and paths at their limits and at every byte, as tests.
+#![tactic(auto)]
+
 #[cfg(test)]
 mod tests {
     use faults::fault::Fault;

@@ -1,4 +1,6 @@
 //! The parts of a name by place, and the runs of parts that are partial names.
+#![tactic(auto)]
+
 mod bytes;
 mod dotted;
 mod lookup;

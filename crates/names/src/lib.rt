@@ -1,4 +1,6 @@
 //! Names, partial names and paths: what is lawful, what their parts are, and which fault any other text has.
+#![tactic(auto)]
+
 mod joint;
 pub mod name;
 pub mod part;

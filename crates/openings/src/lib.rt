@@ -1,4 +1,6 @@
 //! Opening a list: every group that it reaches is found in a book, read and checked.
+#![tactic(auto)]
+
 mod circle;
 mod gather;
 mod gathered;

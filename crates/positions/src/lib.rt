@@ -1,4 +1,6 @@
 //! Sets of places below 64, each held as one number.
+#![tactic(auto)]
+
 ghost use Rattle.std.specs.Prelude.{◌≡◌, ℕ, ◌+◌, ◌<◌, ◌≤◌, true, ◌≢◌, ◌⊎◌, ◌↔◌, MatchOption};
 ghost use Rattle.positions.specs.Places.{Has, Split};
 

@@ -1,4 +1,6 @@
 //! Registers in use, with tests: gates by number and programs by name. Each owner keeps its rows rising.
+#![tactic(auto)]
+
 pub mod gate;
 pub mod program;
 

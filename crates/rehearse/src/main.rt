@@ -1,4 +1,6 @@
 //! Rehearses the script on standard input: each call gives one line on standard output.
+#![tactic(auto)]
+
 use books::row::Group;
 use books::table::{TABLE_ROWS, TableBook};
 use faults::fault::Fault;

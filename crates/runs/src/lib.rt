@@ -1,4 +1,6 @@
 //! Relations between places that only go forward: from where a run starts to where it can end.
+#![tactic(auto)]
+
 mod closure;
 mod image;
 mod relation;

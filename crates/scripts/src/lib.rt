@@ -1,4 +1,6 @@
 //! Scripts: one call a line, its fields apart by a tab.
+#![tactic(auto)]
+
 ghost use Rattle.std.specs.Prelude.{◌≡◌, [], ◌∷◌, Decides, MatchOption};
 ghost use Rattle.scripts.specs.Lines.{Lacks, Cut, parts, Says, Understood};
 

@@ -1,4 +1,6 @@
 //! Texts of bounded length that are held by value, so that what holds one needs no memory of its own.
+#![tactic(auto)]
+
 ghost use Rattle.std.specs.Prelude.{◌≡◌, ◌<◌, ◌≤◌, length, MatchOption};
 ghost use Rattle.texts.specs.Shown.{shown, padded};
 
