@@ -30,8 +30,8 @@ first-circle-requires g c =
     let all = c.in-ok-groups.ensures (subst LawfulList (sym new.0) new.1.lawful) in
     read_distinct all.read
 
-pub invariant-of-result : goal.invariant-of-result
-invariant-of-result g c =
+pub invariant_of-result : goal.invariant_of-result
+invariant_of-result g c =
     let M = text_of (g.B.Book.table c.args.book.now) in
     let new = c.in-ok-list.ensures.answer in
     let text = shown c.in-ok-list.list.text in

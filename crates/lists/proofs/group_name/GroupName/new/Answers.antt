@@ -15,8 +15,8 @@ returns-then-end-text c =
     let short : (end < length text) ⊎ (end ≡ 0) = elim c.then-end-text.branch [ then-end-text-via-then-end-text w ↦ inl w.if-end-text.true | then-end-text-via-else-end-text+then-end-eq0 w ↦ inr w.if-end-eq0.true ] in
     name_refused text _ (subst (GroupNameFault text) (sym c.at-then-end-text.ensures) (stuck_name c.in-Some.ensures.0 (name_stuck text end c.run-end-end.ensures short)))
 
-pub invariant-of-result : goal.invariant-of-result
-invariant-of-result c =
+pub invariant_of-result : goal.invariant_of-result
+invariant_of-result c =
     let held = c.in-Some.ensures in
     (∣ subst IsGroupName (sym held.1) (is_name c.args.text.now c.run-end-end.result c.run-end-end.ensures c.if-end-text.false (omega (arith, c.if-end-eq0.false)) held.0) ∣₁, tt)
 

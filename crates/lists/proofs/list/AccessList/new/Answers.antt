@@ -22,8 +22,8 @@ returns-in-err-check-list c =
     let p = err_from_is_err_and c.from-residual.result c.from-residual.ensures.1 in
     record { answer = rw (p.1, p.2) (refuses c.args.text.now _ (slip c.in-Some.ensures.0 c.in-err-check-list.ensures)); reading = unique_tree c.args.text.now }
 
-pub invariant-of-result : goal.invariant-of-result
-invariant-of-result c =
+pub invariant_of-result : goal.invariant_of-result
+invariant_of-result c =
     let held = c.in-Some.ensures in
     (∣ subst LawfulList (sym held.1) (record { form = c.in-ok-check-list.ensures; short = held.0 }) ∣₁, tt)
 

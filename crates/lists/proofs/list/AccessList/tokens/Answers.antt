@@ -4,8 +4,8 @@ use Rattle.lists.specs.Texts.{LawfulList}
 use Rattle.lists.proofs.Placing.{lawful_placed, one_placing}
 use Rattle.lists.proofs.list.AccessList.tokens.Goals as goal
 
-pub invariant-of-result : goal.invariant-of-result
-invariant-of-result c = (∥∥₁_map c.args.self.now.lawful (λ l. lawful_placed (subst LawfulList (sym c.as-bytes.ensures) l)), (omega arith, tt))
+pub invariant_of-result : goal.invariant_of-result
+invariant_of-result c = (∥∥₁_map c.args.self.now.lawful (λ l. lawful_placed (subst LawfulList (sym c.as-bytes.ensures) l)), (omega arith, tt))
 
 pub returns : goal.returns
 returns c = record { text = c.as-bytes.ensures; start = refl; placing = one_placing _ }

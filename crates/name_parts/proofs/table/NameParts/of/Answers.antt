@@ -9,8 +9,8 @@ use Rattle.name_parts.proofs.table.NameParts.of.Goals as goal
 pub overflow-add-outline : goal.overflow-add-outline
 overflow-add-outline c = let few = held_few (shown c.args.name.now.text) c.of-outline.result c.args.name.now.lawful c.of-outline.ensures in omega arith
 
-pub invariant-of-result : goal.invariant-of-result
-invariant-of-result c =
+pub invariant_of-result : goal.invariant_of-result
+invariant_of-result c =
     let o = c.of-outline.result in
     let text = shown c.args.name.now.text in
     let Mere : List ℕ → Type 0 = λ t. ∥ LawfulName t ∥₁ in

@@ -22,8 +22,8 @@ returns-then-marks-gt-MAX-MARKS c =
     let many : 31 < count_of mark_byte text = omega (arith, c.if-marks-gt-MAX-MARKS.true, h.1) in
     name_refused text _ (subst (NameFault text) (sym c.at-then-marks-gt-MAX-MARKS.ensures) (name_parts text c.nth-joint.result c.in-Some.ensures.0 h.0 many (c.nth-joint.ensures many)))
 
-pub invariant-of-result : goal.invariant-of-result
-invariant-of-result c =
+pub invariant_of-result : goal.invariant_of-result
+invariant_of-result c =
     let h = c.in-ok-marks.ensures in
     let held = c.in-Some.ensures in (
       ∣ subst LawfulName (sym held.1) (name_lawful c.args.text.now held.0 h.0 (omega (arith, c.if-marks-gt-MAX-MARKS.false, h.1))) ∣₁,

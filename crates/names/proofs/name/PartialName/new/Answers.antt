@@ -15,8 +15,8 @@ returns-in-err-read-joined c =
     let p = err_from_is_err_and c.from-residual.result c.from-residual.ensures.1 in
     rw (p.1, p.2) (partial_refused c.args.text.now _ (partial_slip c.args.text.now _ c.in-Some.ensures.0 c.in-err-read-joined.ensures))
 
-pub invariant-of-result : goal.invariant-of-result
-invariant-of-result c =
+pub invariant_of-result : goal.invariant_of-result
+invariant_of-result c =
     let held = c.in-Some.ensures in
     (∣ subst LawfulPartial (sym held.1) (record { form = joined_partial c.in-ok-read-joined.ensures.0; short = held.0 }) ∣₁, tt)
 

@@ -7,13 +7,13 @@ use Rattle.names.proofs.part.PartsIterator.next.Goals as goal
 use Rattle.names.proofs.part.PartsIterator.next.Goals.{in-46, in-64, in-default}
 use Rattle.std.proofs.iter.Next.{firm}
 
-pub invariant-of-self : goal.invariant-of-self
-invariant-of-self c =
+pub invariant_of-self : goal.invariant_of-self
+invariant_of-self c =
     let self = c.args.self.now in
     (∥∥₁_map self.stands (word_on self.text.now self.at c.word-end-end.result c.if-end-place.true c.word-end-end.ensures), tt)
 
-pub invariant-of-self-2 : goal.invariant-of-self-2
-invariant-of-self-2 c =
+pub invariant_of-self-2 : goal.invariant_of-self-2
+invariant_of-self-2 c =
     let self = c.args.self.now in
     (∥∥₁_map self.stands (mark_on self.text.now self.at c.word-end-end.result c.if-place-text.false c.if-end-place.false c.word-end-end.ensures), tt)
 

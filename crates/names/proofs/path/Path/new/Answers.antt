@@ -24,8 +24,8 @@ returns-in-default-text c =
     (path_first c.args.text.now c.in-Some.ensures.0
     (λ some is. elim c.in-default-text.branch [ in-default-text-via-then-text-lt1 w ↦ omega (arith, ltb-true, ltb-false) | in-default-text-via-else-text-lt1+in-default· w ↦ omega (arith, ltb-true, ltb-false) ])))
 
-pub invariant-of-result : goal.invariant-of-result
-invariant-of-result c =
+pub invariant_of-result : goal.invariant_of-result
+invariant_of-result c =
     let held = c.in-Some.ensures in
     let text = c.args.text.now in
     let is = slashed text (omega (arith, ltb-true, ltb-false)) (omega arith) in

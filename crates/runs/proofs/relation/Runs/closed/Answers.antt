@@ -35,8 +35,8 @@ loop-i-preserved c =
       ))),
     )
 
-pub invariant-of-result : goal.invariant-of-result
-invariant-of-result c =
+pub invariant_of-result : goal.invariant_of-result
+invariant_of-result c =
     let from = c.loop-i.invariant.1 in
     let closed : Closed c.loop-i.runs = λ i k j a b.
     let (lt, r) = (from.after i k (omega arith)).0 a in

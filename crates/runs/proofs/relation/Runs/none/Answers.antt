@@ -2,8 +2,8 @@ use Rattle.std.proofs.Common.{refl, arith}
 use Rattle.runs.proofs.Writing.{at_empty}
 use Rattle.runs.proofs.relation.Runs.none.Goals as goal
 
-pub invariant-of-result : goal.invariant-of-result
-invariant-of-result c = (c.requires, (λ i j h. absurd (at_empty 64 c.empty-nowhere.result c.empty-nowhere.ensures i j (omega (arith, h.0)) h.1), tt))
+pub invariant_of-result : goal.invariant_of-result
+invariant_of-result c = (c.requires, (λ i j h. absurd (at_empty 64 c.empty-nowhere.result c.empty-nowhere.ensures i j (omega (arith, h.0)) h.1), tt))
 
 pub returns : goal.returns
 returns c = record { counted = refl; ends = λ i j h. at_empty 64 c.empty-nowhere.result c.empty-nowhere.ensures i j (omega (arith, h.0)) h.1 }

@@ -33,8 +33,11 @@ returns g c =
     let whole = c.loop-i.invariant ∙ ap (padded g.row.N) (take_all c.loop-i.i bytes c.loop-i-test.false) in
     (c.if-len.false, ap (take (length bytes)) whole ∙ take_at bytes _ (length bytes) refl, whole)
 
-pub invariant-of-result : goal.invariant-of-result
-invariant-of-result g c =
+pub invariant_of-result : goal.invariant_of-result
+invariant_of-result g c =
     let bytes = c.args.bytes.now in
     let whole = c.loop-i.invariant ∙ ap (padded g.row.N) (take_all c.loop-i.i bytes c.loop-i-test.false) in
-    (omega (arith, ap length whole, padded_length g.row.N bytes c.if-len.false, c.if-len.false), (c.if-len.false, tt))
+    record {
+      fits = omega (arith, ap length whole, padded_length g.row.N bytes c.if-len.false, c.if-len.false);
+      bounded = c.if-len.false;
+    }
