@@ -4,18 +4,18 @@ use Rattle.names.specs.Parts.{part_of}
 use Rattle.names.proofs.Places.{mark_of}
 use Rattle.names.proofs.Walking.{other_mark, walks_end, walks_word, walks_mark, word_on, mark_on}
 use Rattle.names.proofs.part.PartsIterator.next.Goals as goal
-use Rattle.names.proofs.part.PartsIterator.next.Goals.{in-46, in-64, in-default}
+use Rattle.names.proofs.part.PartsIterator.next.Goals.{in-46, in-64, in_default}
 use Rattle.std.proofs.iter.Next.{firm}
 
 pub invariant_of-self : goal.invariant_of-self
 invariant_of-self c =
     let self = c.args.self.now in
-    (∥∥₁_map self.stands (word_on self.text.now self.at c.word-end-end.result c.if-end-place.true c.word-end-end.ensures), tt)
+    (∥∥₁_map self.stands (word_on self.text.now self.at c.word_end-end.result c.if-end-place.true c.word_end-end.ensures), tt)
 
 pub invariant_of-self-2 : goal.invariant_of-self-2
 invariant_of-self-2 c =
     let self = c.args.self.now in
-    (∥∥₁_map self.stands (mark_on self.text.now self.at c.word-end-end.result c.if-place-text.false c.if-end-place.false c.word-end-end.ensures), tt)
+    (∥∥₁_map self.stands (mark_on self.text.now self.at c.word_end-end.result c.if-place-text.false c.if-end-place.false c.word_end-end.ensures), tt)
 
 pub returns-then-place-text : goal.returns-then-place-text
 returns-then-place-text c =
@@ -26,7 +26,7 @@ pub returns-then-end-place : goal.returns-then-end-place
 returns-then-end-place c =
     let self = c.args.self.now in
     record {
-      steps = walks_word self.text.now self.at _ c.word-end-end.result c.if-end-place.true c.word-end-end.ensures refl;
+      steps = walks_word self.text.now self.at _ c.word_end-end.result c.if-end-place.true c.word_end-end.ensures refl;
       goes = firm ((tt, tt, omega arith)) (λ h. search rules);
     }
 
@@ -38,9 +38,9 @@ returns c =
     elim c.match-text-place.branch [
       | in-46 w ↦ ap part_of w.part-is ∙ ap mark_of (sym w.in-46.is)
       | in-64 w ↦ ap part_of w.part-is ∙ ap mark_of (sym w.in-64.is)
-      | in-default w ↦ ap part_of w.part-is ∙ sym (other_mark b (λ e. omega arith) (λ e. omega arith))
+      | in_default w ↦ ap part_of w.part-is ∙ sym (other_mark b (λ e. omega arith) (λ e. omega arith))
     ] in
     record {
-      steps = walks_mark self.text.now self.at c.match-text-place.part c.word-end-end.result c.if-place-text.false c.if-end-place.false c.word-end-end.ensures mark;
+      steps = walks_mark self.text.now self.at c.match-text-place.part c.word_end-end.result c.if-place-text.false c.if-end-place.false c.word_end-end.ensures mark;
       goes = firm ((tt, tt, omega arith)) (λ h. search rules);
     }

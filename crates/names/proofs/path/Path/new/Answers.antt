@@ -5,7 +5,7 @@ use Rattle.names.specs.Faults.{PathFault, long_path}
 use Rattle.names.proofs.Slashes.{path_of, path_slip, path_first}
 use Rattle.names.proofs.OneFault.{path_accepted, path_refused}
 use Rattle.names.proofs.path.Path.new.Goals as goal
-use Rattle.names.proofs.path.Path.new.Goals.{in-default-text-via-then-text-lt1, in-default-text-via-else-text-lt1+in-default·}
+use Rattle.names.proofs.path.Path.new.Goals.{in_default-text-via-then-text-lt1, in_default-text-via-else-text-lt1+in_default·}
 
 abbrev rest : List ℕ → List ℕ
 rest text = take (length text - 1) (drop 1 text)
@@ -14,15 +14,15 @@ rest text = take (length text - 1) (drop 1 text)
 slashed : (text : List ℕ) → 0 < length text → get_or text 0 0 ≡ 47 → text ≡ 47 ∷ rest text
 slashed text some is = first_rest text 0 some ∙ ap (λ b. b ∷ rest text) is
 
-pub returns-in-default : goal.returns-in-default
-returns-in-default c = let text = c.args.text.now in path_refused text _ (subst (PathFault text) (sym c.at.ensures) (long_path c.in-default.ensures))
+pub returns-in_default : goal.returns-in_default
+returns-in_default c = let text = c.args.text.now in path_refused text _ (subst (PathFault text) (sym c.at.ensures) (long_path c.in_default.ensures))
 
-pub returns-in-default-text : goal.returns-in-default-text
-returns-in-default-text c =
+pub returns-in_default-text : goal.returns-in_default-text
+returns-in_default-text c =
     path_refused c.args.text.now _
-    (subst (PathFault c.args.text.now) (sym c.at-in-default-text.ensures)
+    (subst (PathFault c.args.text.now) (sym c.at-in_default-text.ensures)
     (path_first c.args.text.now c.in-Some.ensures.0
-    (λ some is. elim c.in-default-text.branch [ in-default-text-via-then-text-lt1 w ↦ omega (arith, ltb-true, ltb-false) | in-default-text-via-else-text-lt1+in-default· w ↦ omega (arith, ltb-true, ltb-false) ])))
+    (λ some is. elim c.in_default-text.branch [ in_default-text-via-then-text-lt1 w ↦ omega (arith, ltb-true, ltb-false) | in_default-text-via-else-text-lt1+in_default· w ↦ omega (arith, ltb-true, ltb-false) ])))
 
 pub invariant_of-result : goal.invariant_of-result
 invariant_of-result c =
