@@ -25,10 +25,12 @@ returns-then-marks-gt-MAX_MARKS c =
 pub invariant_of-result : goal.invariant_of-result
 invariant_of-result c =
     let h = c.in_ok-marks.ensures in
-    let held = c.in-Some.ensures in (
-      ∣ subst LawfulName (sym held.1) (name_lawful c.args.text.now held.0 h.0 (omega (arith, c.if-marks-gt-MAX_MARKS.false, h.1))) ∣₁,
-      (h.1 ∙ ap (count_of mark_byte) (sym held.1), (c.if-marks-gt-MAX_MARKS.false, tt)),
-    )
+    let held = c.in-Some.ensures in
+    record {
+      lawful = ∣ subst LawfulName (sym held.1) (name_lawful c.args.text.now held.0 h.0 (omega (arith, c.if-marks-gt-MAX_MARKS.false, h.1))) ∣₁;
+      counted = h.1 ∙ ap (count_of mark_byte) (sym held.1);
+      few = c.if-marks-gt-MAX_MARKS.false;
+    }
 
 pub returns : goal.returns
 returns c =

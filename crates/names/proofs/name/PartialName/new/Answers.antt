@@ -18,7 +18,7 @@ returns-in_err-read_joined c =
 pub invariant_of-result : goal.invariant_of-result
 invariant_of-result c =
     let held = c.in-Some.ensures in
-    (∣ subst LawfulPartial (sym held.1) (record { form = joined_partial c.in_ok-read_joined.ensures.0; short = held.0 }) ∣₁, tt)
+    record { lawful = ∣ subst LawfulPartial (sym held.1) (record { form = joined_partial c.in_ok-read_joined.ensures.0; short = held.0 }) ∣₁ }
 
 pub returns : goal.returns
 returns c = let held = c.in-Some.ensures in (held.1, partial_accepted c.args.text.now (record { form = joined_partial c.in_ok-read_joined.ensures.0; short = held.0 }))

@@ -10,12 +10,12 @@ use Rattle.std.proofs.iter.Next.{firm}
 pub invariant_of-self : goal.invariant_of-self
 invariant_of-self c =
     let self = c.args.self.now in
-    (∥∥₁_map self.stands (word_on self.text.now self.at c.word_end-end.result c.if-end-place.true c.word_end-end.ensures), tt)
+    record { stands = ∥∥₁_map self.stands (word_on self.text.now self.at c.word_end-end.result c.if-end-place.true c.word_end-end.ensures) }
 
 pub invariant_of-self-2 : goal.invariant_of-self-2
 invariant_of-self-2 c =
     let self = c.args.self.now in
-    (∥∥₁_map self.stands (mark_on self.text.now self.at c.word_end-end.result c.if-place-text.false c.if-end-place.false c.word_end-end.ensures), tt)
+    record { stands = ∥∥₁_map self.stands (mark_on self.text.now self.at c.word_end-end.result c.if-place-text.false c.if-end-place.false c.word_end-end.ensures) }
 
 pub returns-then-place-text : goal.returns-then-place-text
 returns-then-place-text c =

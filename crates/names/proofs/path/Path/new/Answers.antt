@@ -5,7 +5,7 @@ use Rattle.names.specs.Faults.{PathFault, long_path}
 use Rattle.names.proofs.Slashes.{path_of, path_slip, path_first}
 use Rattle.names.proofs.OneFault.{path_accepted, path_refused}
 use Rattle.names.proofs.path.Path.new.Goals as goal
-use Rattle.names.proofs.path.Path.new.Goals.{in_default-text-via-then-text-lt1, in_default-text-via-else-text-lt1+in_default·}
+use Rattle.names.proofs.path.Path.new.Goals.{in_default-text-via-then-text-lt1, in_default-text-via-else-text-lt1+in_default-1}
 
 abbrev rest : List ℕ → List ℕ
 rest text = take (length text - 1) (drop 1 text)
@@ -22,14 +22,14 @@ returns-in_default-text c =
     path_refused c.args.text.now _
     (subst (PathFault c.args.text.now) (sym c.at-in_default-text.ensures)
     (path_first c.args.text.now c.in-Some.ensures.0
-    (λ some is. elim c.in_default-text.branch [ in_default-text-via-then-text-lt1 w ↦ omega (arith, ltb-true, ltb-false) | in_default-text-via-else-text-lt1+in_default· w ↦ omega (arith, ltb-true, ltb-false) ])))
+    (λ some is. elim c.in_default-text.branch [ in_default-text-via-then-text-lt1 w ↦ omega (arith, ltb-true, ltb-false) | in_default-text-via-else-text-lt1+in_default-1 w ↦ omega (arith, ltb-true, ltb-false) ])))
 
 pub invariant_of-result : goal.invariant_of-result
 invariant_of-result c =
     let held = c.in-Some.ensures in
     let text = c.args.text.now in
     let is = slashed text (omega (arith, ltb-true, ltb-false)) (omega arith) in
-    (∣ subst LawfulPath (sym held.1) (record { form = subst IsPath (sym is) (path_of c.in-Ok.ensures.0); short = held.0 }) ∣₁, tt)
+    record { lawful = ∣ subst LawfulPath (sym held.1) (record { form = subst IsPath (sym is) (path_of c.in-Ok.ensures.0); short = held.0 }) ∣₁ }
 
 pub returns-in-Ok : goal.returns-in-Ok
 returns-in-Ok c =
