@@ -7,24 +7,24 @@ use Rattle.lists.proofs.reader.group_at.Goals.{then-close-text-via-then-close-te
 pub returns-then-end-start : goal.returns-then-end-start
 returns-then-end-start c = λ from gap.
     subst (TokenFault c.args.text.now from) (sym c.at.ensures)
-    (name_missing c.args.text.now from c.args.place gap c.requires.0 c.run-end-start.result c.run-end-end.result c.requires.1 c.run-end-start.ensures c.run-end-end.ensures c.if-end-start.true)
+    (name_missing c.args.text.now from c.args.place gap c.requires.0 c.run_end-start.result c.run_end-end.result c.requires.1 c.run_end-start.ensures c.run_end-end.ensures c.if-end-start.true)
 
-pub returns-then-end-start-gt-MAX-GROUP-NAME-BYTES : goal.returns-then-end-start-gt-MAX-GROUP-NAME-BYTES
-returns-then-end-start-gt-MAX-GROUP-NAME-BYTES c = λ from gap.
-    subst (TokenFault c.args.text.now from) (sym c.at-then-end-start-gt-MAX-GROUP-NAME-BYTES.ensures)
-    (name_long c.args.text.now from c.args.place gap c.requires.0 c.run-end-start.result c.run-end-end.result c.requires.1 c.run-end-start.ensures c.run-end-end.ensures c.if-end-start-gt-MAX-GROUP-NAME-BYTES.true)
+pub returns-then-end-start-gt-MAX_GROUP_NAME_BYTES : goal.returns-then-end-start-gt-MAX_GROUP_NAME_BYTES
+returns-then-end-start-gt-MAX_GROUP_NAME_BYTES c = λ from gap.
+    subst (TokenFault c.args.text.now from) (sym c.at-then-end-start-gt-MAX_GROUP_NAME_BYTES.ensures)
+    (name_long c.args.text.now from c.args.place gap c.requires.0 c.run_end-start.result c.run_end-end.result c.requires.1 c.run_end-start.ensures c.run_end-end.ensures c.if-end-start-gt-MAX_GROUP_NAME_BYTES.true)
 
 pub returns-then-close-text : goal.returns-then-close-text
 returns-then-close-text c = λ from gap.
     let text = c.args.text.now in
-    let close = c.run-end-close.result in
+    let close = c.run_end-close.result in
     let other : close < length text → eqb (get_or text close 0) 125 ≡ false = λ lt. elim c.then-close-text.branch [ then-close-text-via-then-close-text w ↦ absurd (omega (arith, w.if-close-text.true)) | then-close-text-via-else-close-text+then-text-close-ne125 w ↦ ne_eqb (get_or text close 0) 125 w.if-text-close-ne125.true ] in
     subst (TokenFault text from) (sym c.at-then-close-text.ensures)
-    (brace_missing text from c.args.place gap c.requires.0 c.run-end-start.result c.run-end-end.result c.requires.1 c.run-end-start.ensures c.run-end-end.ensures c.if-end-start.false c.if-end-start-gt-MAX-GROUP-NAME-BYTES.false close c.run-end-close.ensures other)
+    (brace_missing text from c.args.place gap c.requires.0 c.run_end-start.result c.run_end-end.result c.requires.1 c.run_end-start.ensures c.run_end-end.ensures c.if-end-start.false c.if-end-start-gt-MAX_GROUP_NAME_BYTES.false close c.run_end-close.ensures other)
 
 pub returns : goal.returns
 returns c = λ from gap.
     let text = c.args.text.now in
-    let close = c.run-end-close.result in
-    let inside : close < length text = omega (arith, c.run-end-close.ensures.within, c.if-close-text.false) in
-    group_token text from c.args.place gap c.requires.0 c.run-end-start.result c.run-end-end.result c.requires.1 c.run-end-start.ensures c.run-end-end.ensures c.if-end-start.false c.if-end-start-gt-MAX-GROUP-NAME-BYTES.false close c.run-end-close.ensures inside c.if-text-close-ne125.false
+    let close = c.run_end-close.result in
+    let inside : close < length text = omega (arith, c.run_end-close.ensures.within, c.if-close-text.false) in
+    group_token text from c.args.place gap c.requires.0 c.run_end-start.result c.run_end-end.result c.requires.1 c.run_end-start.ensures c.run_end-end.ensures c.if-end-start.false c.if-end-start-gt-MAX_GROUP_NAME_BYTES.false close c.run_end-close.ensures inside c.if-text-close-ne125.false

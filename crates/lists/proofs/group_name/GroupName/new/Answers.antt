@@ -5,22 +5,22 @@ use Rattle.lists.proofs.Grouping.{name_stuck, is_name, name_accepted, name_refus
 use Rattle.lists.proofs.group_name.GroupName.new.Goals as goal
 use Rattle.lists.proofs.group_name.GroupName.new.Goals.{then-end-text-via-then-end-text, then-end-text-via-else-end-text+then-end-eq0}
 
-pub returns-in-default : goal.returns-in-default
-returns-in-default c = let text = c.args.text.now in name_refused text _ (subst (GroupNameFault text) (sym c.at.ensures) (long_name c.in-default.ensures))
+pub returns-in_default : goal.returns-in_default
+returns-in_default c = let text = c.args.text.now in name_refused text _ (subst (GroupNameFault text) (sym c.at.ensures) (long_name c.in_default.ensures))
 
 pub returns-then-end-text : goal.returns-then-end-text
 returns-then-end-text c =
     let text = c.args.text.now in
-    let end = c.run-end-end.result in
+    let end = c.run_end-end.result in
     let short : (end < length text) ⊎ (end ≡ 0) = elim c.then-end-text.branch [ then-end-text-via-then-end-text w ↦ inl w.if-end-text.true | then-end-text-via-else-end-text+then-end-eq0 w ↦ inr w.if-end-eq0.true ] in
-    name_refused text _ (subst (GroupNameFault text) (sym c.at-then-end-text.ensures) (stuck_name c.in-Some.ensures.0 (name_stuck text end c.run-end-end.ensures short)))
+    name_refused text _ (subst (GroupNameFault text) (sym c.at-then-end-text.ensures) (stuck_name c.in-Some.ensures.0 (name_stuck text end c.run_end-end.ensures short)))
 
 pub invariant_of-result : goal.invariant_of-result
 invariant_of-result c =
     let held = c.in-Some.ensures in
-    (∣ subst IsGroupName (sym held.1) (is_name c.args.text.now c.run-end-end.result c.run-end-end.ensures c.if-end-text.false (omega (arith, c.if-end-eq0.false)) held.0) ∣₁, tt)
+    record { lawful = ∣ subst IsGroupName (sym held.1) (is_name c.args.text.now c.run_end-end.result c.run_end-end.ensures c.if-end-text.false (omega (arith, c.if-end-eq0.false)) held.0) ∣₁ }
 
 pub returns : goal.returns
 returns c =
     let held = c.in-Some.ensures in
-    (held.1, name_accepted c.args.text.now (is_name c.args.text.now c.run-end-end.result c.run-end-end.ensures c.if-end-text.false (omega (arith, c.if-end-eq0.false)) held.0))
+    (held.1, name_accepted c.args.text.now (is_name c.args.text.now c.run_end-end.result c.run_end-end.ensures c.if-end-text.false (omega (arith, c.if-end-eq0.false)) held.0))

@@ -12,23 +12,23 @@ use Rattle.lists.proofs.list.AccessList.new.Goals as goal
 refuses : (text : List ℕ) (f : Fault) → ListFault text f → Refused (LawfulList text) (ListFault text) f
 refuses text f = refused (LawfulList text) (ListFault text) (one_fault text) (no_fault text) f
 
-pub returns-in-default : goal.returns-in-default
-returns-in-default c =
+pub returns-in_default : goal.returns-in_default
+returns-in_default c =
     let text = c.args.text.now in
-    record { answer = refuses text _ (subst (ListFault text) (sym c.at.ensures) (long c.in-default.ensures)); reading = unique_tree text }
+    record { answer = refuses text _ (subst (ListFault text) (sym c.at.ensures) (long c.in_default.ensures)); reading = unique_tree text }
 
-pub returns-in-err-check-list : goal.returns-in-err-check-list
-returns-in-err-check-list c =
-    let p = err_from_is_err_and c.from-residual.result c.from-residual.ensures.1 in
-    record { answer = rw (p.1, p.2) (refuses c.args.text.now _ (slip c.in-Some.ensures.0 c.in-err-check-list.ensures)); reading = unique_tree c.args.text.now }
+pub returns-in_err-check_list : goal.returns-in_err-check_list
+returns-in_err-check_list c =
+    let p = err_from_is_err_and c.from_residual.result c.from_residual.ensures.1 in
+    record { answer = rw (p.1, p.2) (refuses c.args.text.now _ (slip c.in-Some.ensures.0 c.in_err-check_list.ensures)); reading = unique_tree c.args.text.now }
 
 pub invariant_of-result : goal.invariant_of-result
 invariant_of-result c =
     let held = c.in-Some.ensures in
-    (∣ subst LawfulList (sym held.1) (record { form = c.in-ok-check-list.ensures; short = held.0 }) ∣₁, tt)
+    record { lawful = ∣ subst LawfulList (sym held.1) (record { form = c.in_ok-check_list.ensures; short = held.0 }) ∣₁ }
 
 pub returns : goal.returns
 returns c =
     let text = c.args.text.now in
     let held = c.in-Some.ensures in
-    record { answer = (held.1, accepted (LawfulList text) (ListFault text) (one_fault text) (no_fault text) (record { form = c.in-ok-check-list.ensures; short = held.0 })); reading = unique_tree text }
+    record { answer = (held.1, accepted (LawfulList text) (ListFault text) (one_fault text) (no_fault text) (record { form = c.in_ok-check_list.ensures; short = held.0 })); reading = unique_tree text }

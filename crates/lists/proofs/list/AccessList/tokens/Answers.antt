@@ -5,7 +5,8 @@ use Rattle.lists.proofs.Placing.{lawful_placed, one_placing}
 use Rattle.lists.proofs.list.AccessList.tokens.Goals as goal
 
 pub invariant_of-result : goal.invariant_of-result
-invariant_of-result c = (∥∥₁_map c.args.self.now.lawful (λ l. lawful_placed (subst LawfulList (sym c.as-bytes.ensures) l)), (omega arith, tt))
+invariant_of-result c =
+    record { readable = ∥∥₁_map c.args.self.now.lawful (λ l. lawful_placed (subst LawfulList (sym c.as_bytes.ensures) l)); within = omega arith }
 
 pub returns : goal.returns
-returns c = record { text = c.as-bytes.ensures; start = refl; placing = one_placing _ }
+returns c = record { text = c.as_bytes.ensures; start = refl; placing = one_placing _ }

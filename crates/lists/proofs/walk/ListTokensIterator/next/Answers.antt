@@ -7,13 +7,13 @@ use Rattle.lists.proofs.walk.ListTokensIterator.next.Goals as goal
 use Rattle.std.proofs.iter.Next.{firm}
 
 pub unreachable-requires : goal.unreachable-requires
-unreachable-requires c = let self = c.args.self.now in ∥∥₁_elim self.readable ⊥_prop (λ r. fault_apart self.text.now self.at r.1 c.in-default.ensures)
+unreachable-requires c = let self = c.args.self.now in ∥∥₁_elim self.readable ⊥_prop (λ r. fault_apart self.text.now self.at r.1 c.in_default.ensures)
 
 pub invariant_of-self : goal.invariant_of-self
 invariant_of-self c =
     let self = c.args.self.now in
     let step = stepped self.text.now self.at c.in-Ok.next c.match-next.self c.in-Ok.ensures (search rules) in
-    (∥∥₁_map self.readable step.on, (step.inside, tt))
+    record { readable = ∥∥₁_map self.readable step.on; within = step.inside }
 
 pub returns : goal.returns
 returns c =
