@@ -139,9 +139,9 @@ mod tests {
     fn is_part(next: Option<(usize, Part<'_>)>, bytes: &[u8], place: usize) -> bool {
         match next {
             Some((at, Part::Word(word))) => at == place && word == bytes,
-            Some((at, Part::Dot)) => at == place && bytes == b".",
-            Some((at, Part::At)) => at == place && bytes == b"@",
-            Some((at, Part::Plus)) => at == place && bytes == b"+",
+            Some((at, Part::Dot)) => at == place && bytes == b".".as_slice(),
+            Some((at, Part::At)) => at == place && bytes == b"@".as_slice(),
+            Some((at, Part::Plus)) => at == place && bytes == b"+".as_slice(),
             None => false,
         }
     }
