@@ -13,7 +13,7 @@ use Rattle.registers.proofs.Tables.{due_none, inserted_rising, inserted_own, ins
 
 -- a register with these rows, of which so many are in use
 abbrev pub changed : {R K : Type 0} → Register R K → List R → ℕ → Register R K
-changed old rows used = record { rows = record { ref_ptr = old.rows.ptr; ghost_name = old.rows.name; now = rows }; used = used }
+changed old rows used = record { rows = record { ref_ptr = old.rows.ref_ptr; ghost_name = old.rows.ghost_name; now = rows }; used = used }
 
 none_some : {R : Type 0} (o : Option R) (x : R) → o ≡ Some x → o ≡ None → ⊥
 none_some o x p q = let z : ◌≡◌ {A = ℕ} 0 1 = cc in omega arith

@@ -48,7 +48,7 @@ impl<'a, R: Record> Register<'a, R> {
 
     /// The record that has the key.
     pub fn find(&self, key: &R::Key) -> Option<&R>
-        ensures { Rising keyed (rows_in_use self.now) → MatchOption result (found keyed (rows_in_use self.now) (R.Key.Key.view key.now) ≡ None) (λ x. found keyed (rows_in_use self.now) (R.Key.Key.view key.now) ≡ Some x.now) }
+        ensures { Rising R.keyed (rows_in_use self.now) → MatchOption result (found R.keyed (rows_in_use self.now) (R.Key.view key.now) ≡ None) (λ x. found R.keyed (rows_in_use self.now) (R.Key.view key.now) ≡ Some x.now) }
     {
         let rows = self.in_use();
         match place(rows, key) {
@@ -59,8 +59,8 @@ impl<'a, R: Record> Register<'a, R> {
 
     /// Puts a record in its place. One with the same key makes way for it.
     pub fn put(&mut self, row: R) -> Result<(), Full>
-        ensures order { Rising keyed (rows_in_use self.old) → Rising keyed (rows_in_use self.new) }
-        ensures table { Rising keyed (rows_in_use self.old) → MatchResult result (λ _. Puts keyed row self.old self.new) (λ _. Refuses keyed row self.old) }
+        ensures order { Rising R.keyed (rows_in_use self.old) → Rising R.keyed (rows_in_use self.new) }
+        ensures table { Rising R.keyed (rows_in_use self.old) → MatchResult result (λ _. Puts R.keyed row self.old self.new) (λ _. Refuses R.keyed row self.old) }
         ensures memory { MatchResult result (λ _. Kept self.old self.new) (λ _. Same self.old self.new) }
     {
         let used = self.len();
@@ -82,8 +82,8 @@ impl<'a, R: Record> Register<'a, R> {
 
     /// Takes the record that has the key out, and answers it. Its row is free again.
     pub fn remove(&mut self, key: &R::Key) -> Option<R>
-        ensures order { Rising keyed (rows_in_use self.old) → Rising keyed (rows_in_use self.new) }
-        ensures table { Rising keyed (rows_in_use self.old) → Removes keyed (R.Key.Key.view key.now) self.old self.new result }
+        ensures order { Rising R.keyed (rows_in_use self.old) → Rising R.keyed (rows_in_use self.new) }
+        ensures table { Rising R.keyed (rows_in_use self.old) → Removes R.keyed (R.Key.view key.now) self.old self.new result }
         ensures memory { MatchOption result (Same self.old self.new) (λ _. Kept self.old self.new × (length (rows_in_use self.new) + 1 ≡ length (rows_in_use self.old))) }
     {
         let used = self.len();

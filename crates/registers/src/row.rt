@@ -8,7 +8,7 @@ use super::record::Record;
 
 /// The place of the row that has the key, or the place where such a row is due.
 pub(crate) fn place<R: Record>(rows: &[R], key: &R::Key) -> Result<usize, usize>
-    ensures { MatchResult result (λ at. There keyed rows.now (R.Key.Key.view key.now) at) (λ at. Due keyed rows.now (R.Key.Key.view key.now) at) }
+    ensures { MatchResult result (λ at. There R.keyed rows.now (R.Key.view key.now) at) (λ at. Due R.keyed rows.now (R.Key.view key.now) at) }
 {
     let mut at = 0;
     for row in rows {
