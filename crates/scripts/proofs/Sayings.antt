@@ -5,7 +5,7 @@ use Rattle.std.proofs.lemmas.Slice.{first_rest}
 use Rattle.std.proofs.lemmas.Bool.{eqb-true, eqb-false}
 use Rattle.scripts.specs.declared.line.Line.{Line}
 use Rattle.scripts.specs.declared.line.Line.TheVariants.{Silent, NotUnderstood, Name, Path, List as ListCall, Group, Ungroup, Open, Match}
-use Rattle.scripts.specs.Lines.{Lacks, Cut, Fields, last, more, parts, Says, nothing, comment, call, Understood, this, none}
+use Rattle.scripts.specs.Lines.{Cut, Fields, last, more, parts, Says, nothing, comment, call, Understood, this, none}
 use Rattle.scripts.proofs.Cuts.{cut_has, cut_once}
 
 pub says_nothing : (text : List ℕ) → true ≡ eqb (length text) 0 → Says text Silent
