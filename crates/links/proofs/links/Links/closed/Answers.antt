@@ -7,8 +7,8 @@ loop-middle-init c = (refl, via_none)
 
 pub loop-middle-preserved : goal.loop-middle-preserved
 loop-middle-preserved c = (
-  c.link-through.ensures.count ∙ c.loop-middle.invariant.0,
-  via_more c.loop-middle.middle c.loop-middle.invariant.1 c.link-through.ensures.links,
+  c.link_through.ensures.count ∙ c.loop-middle.invariant.0,
+  via_more c.loop-middle.middle c.loop-middle.invariant.1 c.link_through.ensures.links,
 )
 
 pub returns : goal.returns
