@@ -1,5 +1,5 @@
 -- What a register finds is what its table has.
-use Rattle.std.proofs.Common.{◌≡◌, ℕ, ◌<◌, ◌≤◌, Bool, true, false, cond, ◌&&◌, eqb, List, [], ◌∷◌, map, length, Some, None, Option, sym, refl, ap, ◌∙◌, subst, ⊎_elim, arith, length-take, MutBor, MatchOption}
+use Rattle.std.proofs.Common.{◌≡◌, ℕ, ◌<◌, ◌≤◌, Bool, true, false, cond, ◌&&◌, eqb, List, [], ◌∷◌, map, length, Some, None, Option, sym, refl, ap, ◌∙◌, subst, ⊎_elim, arith, length-take, Bor, MatchOption}
 use Rattle.std.proofs.lemmas.Slice.Eq.{bytes_eq-Decides}
 use Rattle.std.proofs.lemmas.Bool.{cond-true, cond-false, cond_both, cases_Bool}
 use Rattle.std.specs.Option.{option_map}
@@ -44,6 +44,6 @@ text_long (g ∷ gs) k lt =
 pub text_cases : (gs : List Group) (k : List ℕ) (o : Option Group) → found name_of gs k ≡ o → text_of (table_of gs) k ≡ option_map (λ g. shown g.text) o
 text_cases gs k o e = text_found gs k ∙ ap (option_map (λ g. shown g.text)) e
 
-pub find_cases : (gs : List Group) (k name : List ℕ) (r : Option (MutBor Group)) → k ≡ name → MatchOption r (found name_of gs k ≡ None) (λ x. found name_of gs k ≡ Some x.now) → MatchOption r (text_of (table_of gs) name ≡ None) (λ x. text_of (table_of gs) name ≡ Some (shown x.now.text))
+pub find_cases : (gs : List Group) (k name : List ℕ) (r : Option (Bor Group)) → k ≡ name → MatchOption r (found name_of gs k ≡ None) (λ x. found name_of gs k ≡ Some x.now) → MatchOption r (text_of (table_of gs) name ≡ None) (λ x. text_of (table_of gs) name ≡ Some (shown x.now.text))
 find_cases gs k name None e h = ap (text_of (table_of gs)) (sym e) ∙ text_cases gs k None h
 find_cases gs k name (Some x) e h = ap (text_of (table_of gs)) (sym e) ∙ text_cases gs k (Some x.now) h

@@ -9,4 +9,4 @@ unfolding group_byte word_byte
 dash = record { some = omega arith; few = omega arith; bytes = (refl, tt) }
 
 pub unreachable-requires : goal.unreachable-requires
-unreachable-requires c = c.in-default.ensures.unlawful dash
+unreachable-requires c = c.in_default.ensures.unlawful dash

@@ -5,8 +5,8 @@ use Rattle.books.proofs.Lookups.{text_long}
 use Rattle.books.proofs.Changing.{removes_removed, no_text}
 use Rattle.books.proofs.table.TableBook.remove.Goals as goal
 
-pub returns-in-default : goal.returns-in-default
-returns-in-default c = (c.at.ensures, text_long (rows_in_use c.args.self.now.groups) c.args.name.now c.in-default.ensures, record { rows = refl; used = refl })
+pub returns-in_default : goal.returns-in_default
+returns-in_default c = (c.at.ensures, text_long (rows_in_use c.args.self.now.groups) c.args.name.now c.in_default.ensures, record { rows = refl; used = refl })
 
 pub returns-in-Some-remove : goal.returns-in-Some-remove
 returns-in-Some-remove c =
