@@ -41,9 +41,9 @@ module _ {list : List ℕ} {table : Table} {leads : Links} (g : Grounds list tab
   -- a group's text is ready where every group that it is linked to is held
   pub text_ready : (k : ℕ) → k < length table → ((m : ℕ) → Linked leads k m → Held judge ps table m) → (tree : Tree) → Reads (get_or (texts_of table) k []) tree → TreeReady judge ps table tree
   text_ready k lt held tree reads =
-      every_group (GroupReady judge ps table) tree reads (λ rs name f n. let (m, (is, l)) = g.text-names k lt rs name f n in group_ready name m is (held m l))
+      every_group (GroupReady judge ps table) tree reads (λ rs name f n. let (m, (is, l)) = g.text_names k lt rs name f n in group_ready name m is (held m l))
 
   -- and the list is where every group is held
   pub list_ready : ((m : ℕ) → m < length table → Held judge ps table m) → (tree : Tree) → Reads list tree → TreeReady judge ps table tree
   list_ready held tree reads =
-      every_group (GroupReady judge ps table) tree reads (λ rs name f n. let (m, is) = g.list-names rs name f n in group_ready name m is (held m (omega (arith, is.below, length_names table))))
+      every_group (GroupReady judge ps table) tree reads (λ rs name f n. let (m, is) = g.list_names rs name f n in group_ready name m is (held m (omega (arith, is.below, length_names table))))

@@ -55,7 +55,7 @@ module _ {M : Meaning} {list : List ℕ} {k : ℕ} {gs gs' : List Name} {texts :
             ⊎_elim
             (λ old.
             let ne : i ≢ k = omega arith in
-            ap M (kept_at i all.met (omega arith)) ∙ g.texts-held i old ∙ ap Some (sym (get_or-set_other texts k i text [] ne)))
+            ap M (kept_at i all.met (omega arith)) ∙ g.texts_held i old ∙ ap Some (sym (get_or-set_other texts k i text [] ne)))
             (λ le. let is : i ≡ k = omega arith in subst (λ x. M (get_or gs' x []) ≡ Some (get_or (set texts k text) x [])) (sym is) (ap M own ∙ has ∙ ap Some (sym (get_or-set_same texts k text [] room))))
             (cases_lt i k);
         rows = added.count ∙ ap (λ n. n + 1) g.rows;

@@ -11,14 +11,14 @@ pub returns-then-eq : goal.returns-then-eq
 returns-then-eq c =
     record {
       below = rw length-map c.loop-k-test.true;
-      is = name_at c.args.names.now c.loop-k.k c.index-names-k.result c.loop-k-test.true c.index-names-k.is ∙ sym c.as-bytes.ensures ∙ (slice_eq-Decides Decides-eqb _ _ _ c.eq.ensures).0 c.if-eq.true;
+      is = name_at c.args.names.now c.loop-k.k c.index-names-k.result c.loop-k-test.true c.index-names-k.is ∙ sym c.as_bytes.ensures ∙ (slice_eq-Decides Decides-eqb _ _ _ c.eq.ensures).0 c.if-eq.true;
     }
 
 pub loop-k-preserved : goal.loop-k-preserved
 loop-k-preserved c =
     below_more _ _ c.loop-k.invariant
     (λ e.
-    let same : c.eq.result ≡ true = (slice_eq-Decides Decides-eqb _ _ _ c.eq.ensures).1 (c.as-bytes.ensures ∙ sym (name_at c.args.names.now c.loop-k.k c.index-names-k.result c.loop-k-test.true c.index-names-k.is) ∙ e) in
+    let same : c.eq.result ≡ true = (slice_eq-Decides Decides-eqb _ _ _ c.eq.ensures).1 (c.as_bytes.ensures ∙ sym (name_at c.args.names.now c.loop-k.k c.index-names-k.result c.loop-k-test.true c.index-names-k.is) ∙ e) in
     clash (sym c.if-eq.false ∙ same))
 
 pub returns : goal.returns

@@ -17,7 +17,7 @@ loop-lexeme-init c =
     let self = c.args.self.now in
     let home = c.args.home in
     let Holds : List Reference → Type 0 = λ rs. (h : Name) → Named rs h → Back (known self.known) c.args.leads.now home h → ⊥ in
-    let same = c.into-iter-lexeme-iterator.ensures.into-iter-gives in
+    let same = c.into_iter-lexeme-iterator.ensures.into_iter_gives in
     let inside : home < length self.texts = omega (arith, self.room, c.requires.inside) in
     let own = get_or-map text_in self.texts home c.index-self-home.result [] inside in (
       tt,
@@ -35,15 +35,15 @@ loop-lexeme-preserved c =
       λ ps p.
           let u = c.loop-lexeme.invariant.3 ps p in
           let (rest, step) = walked c.loop-lexeme.invariant.2 walks u.left u.placed in
-          pass_other u rest (ap references_of step.0 ∙ no_reference c.in-Some.lexeme.token c.in-default.not-Group c.in-Some.lexeme.place (references_of rest)) step.1,
+          pass_other u rest (ap references_of step.0 ∙ no_reference c.in-Some.lexeme.token c.in_default.not-Group c.in-Some.lexeme.place (references_of rest)) step.1,
     )
 
-pub loop-lexeme-preserved-else-leads-back : goal.loop-lexeme-preserved-else-leads-back
-loop-lexeme-preserved-else-leads-back c =
+pub loop-lexeme-preserved-else-leads_back : goal.loop-lexeme-preserved-else-leads_back
+loop-lexeme-preserved-else-leads_back c =
     let self = c.args.self.now in
     let Is : Name → Type 0 = Back (known self.known) c.args.leads.now c.args.home in
     let walks = c.in-Some.ensures.steps in
-    let no : Is c.in-Group.name.now → ⊥ = λ b. clash (sym c.if-leads-back.false ∙ c.leads-back.ensures.1 b) in (
+    let no : Is c.in-Group.name.now → ⊥ = λ b. clash (sym c.if-leads_back.false ∙ c.leads_back.ensures.1 b) in (
       tt,
       tt,
       walks.kept ∙ c.loop-lexeme.invariant.2,
@@ -54,8 +54,8 @@ loop-lexeme-preserved-else-leads-back c =
           (λ h n b. ⊎_elim (λ was. u.holds h was b) (λ e. no (subst Is (sym e) b)) (named_more u.done _ n)),
     )
 
-pub returns-then-leads-back : goal.returns-then-leads-back
-returns-then-leads-back c rs refers =
+pub returns-then-leads_back : goal.returns-then-leads_back
+returns-then-leads_back c rs refers =
     let u = c.loop-lexeme.invariant.3 refers.tokens refers.placed in
     let (rest, step) = walked c.loop-lexeme.invariant.2 c.in-Some.ensures.steps u.left u.placed in
     record {
@@ -63,7 +63,7 @@ returns-then-leads-back c rs refers =
       name = c.in-Group.name.now;
       after = references_of rest;
       whole = refers.these ∙ pass_here u rest (step.0 ∙ ap (λ t. (c.in-Some.lexeme.place, sign t) ∷ rest) c.in-Group.is);
-      leads_back = c.leads-back.ensures.0 c.if-leads-back.true;
+      leads_back = c.leads_back.ensures.0 c.if-leads_back.true;
       none_before = u.holds;
     }
 

@@ -7,7 +7,7 @@ use Rattle.openings.proofs.Holding.{known_count}
 use Rattle.openings.proofs.Leading.{circle_fault, no_self, no_back, first_back}
 use Rattle.openings.proofs.Concluding.{text_refers}
 use Rattle.openings.proofs.gathered.Gathered.first_circle.Goals as goal
-use Rattle.openings.proofs.gathered.Gathered.first_circle.Goals.{then-has+in-default, else-has}
+use Rattle.openings.proofs.gathered.Gathered.first_circle.Goals.{then-has+in_default, else-has}
 
 pub returns-in-Some : goal.returns-in-Some
 returns-in-Some c M list all closes =
@@ -26,7 +26,7 @@ loop-k-preserved c M list all closes j q le circle =
     let (rs, refers) = text_refers all k here in
     let none : OnCircle M (known self.known) (k + 1) q → ⊥ =
     elim c.if-has.branch [
-      | then-has+in-default w ↦ no_back all leads closes k here refers (w.in-default.ensures rs refers) q
+      | then-has+in_default w ↦ no_back all leads closes k here refers (w.in_default.ensures rs refers) q
       | else-has w ↦ no_self all leads closes k here (λ l. clash (sym w.if-has.false ∙ c.has.ensures.1 l)) q
     ] in
     ⊎_elim

@@ -9,25 +9,25 @@ pub returns-in-Some : goal.returns-in-Some
 returns-in-Some g c =
     let at = c.in-Some.ensures in (again (c.in-Some.k, at), at)
 
-pub returns-then-self-eq-MAX-GROUPS : goal.returns-then-self-eq-MAX-GROUPS
-returns-then-self-eq-MAX-GROUPS g c place rs =
+pub returns-then-self-eq-MAX_GROUPS : goal.returns-then-self-eq-MAX_GROUPS
+returns-then-self-eq-MAX_GROUPS g c place rs =
     let self = c.args.self.now in
-    surplus c.in-default.ensures (omega (arith, known_count self, c.if-self-eq-MAX-GROUPS.true))
+    surplus c.in_default.ensures (omega (arith, known_count self, c.if-self-eq-MAX_GROUPS.true))
 
-pub returns-then-is-none : goal.returns-then-is-none
-returns-then-is-none g c place rs =
+pub returns-then-is_none : goal.returns-then-is_none
+returns-then-is_none g c place rs =
     let self = c.args.self.now in
-    lacking c.in-default.ensures (omega (arith, known_count self, self.few, c.if-self-eq-MAX-GROUPS.false))
-    (no_length _ _ c.text-len.ensures c.if-is-none.ensures)
+    lacking c.in_default.ensures (omega (arith, known_count self, self.few, c.if-self-eq-MAX_GROUPS.false))
+    (no_length _ _ c.text_len.ensures c.if-is_none.ensures)
 
 pub returns : goal.returns
 returns g c =
     let self = c.args.self.now in
     let name = c.args.name.now in
-    let few : self.count < 32 = omega (arith, self.few, c.if-self-eq-MAX-GROUPS.false) in
+    let few : self.count < 32 = omega (arith, self.few, c.if-self-eq-MAX_GROUPS.false) in
     let M = text_of (g.B.Book.table c.args.book.now) in
     let all = names_more self.names self.count c.in-Ok.held (omega (arith, self.room, few)) ∙ ap (λ n. known self ++ (n ∷ [])) c.in-Ok.ensures.0 in
-    let unknown = c.in-default.ensures in (
-      subst (Meets M (known self) name) (sym all) (new unknown (omega (arith, known_count self, few)) (some_length _ _ c.text-len.ensures c.if-is-none.ensures)),
+    let unknown = c.in_default.ensures in (
+      subst (Meets M (known self) name) (sym all) (new unknown (omega (arith, known_count self, few)) (some_length _ _ c.text_len.ensures c.if-is_none.ensures)),
       subst (λ gs. Numbered gs name self.count) (sym all) (last_numbered (known self) name self.count (known_count self)),
     )

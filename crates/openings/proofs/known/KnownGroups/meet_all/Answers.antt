@@ -14,7 +14,7 @@ use Rattle.openings.proofs.known.KnownGroups.meet_all.Goals as goal
 pub loop-lexeme-init : goal.loop-lexeme-init
 loop-lexeme-init g c =
     let Holds : List Reference → Type 0 = λ rs. AllMet (text_of (g.B.Book.table c.args.book.now)) (known c.args.self.now) rs (known c.args.self.now) c.empty-named.result.digits in
-    let same = c.into-iter-lexeme-iterator.ensures.into-iter-gives in (
+    let same = c.into_iter-lexeme-iterator.ensures.into_iter_gives in (
       tt,
       tt,
       ap (λ t. t.text.now) same ∙ c.tokens-lexeme-items.ensures.text,
@@ -59,7 +59,7 @@ loop-lexeme-preserved g c =
       λ ps p.
           let u = c.loop-lexeme.invariant.3 ps p in
           let (rest, step) = walked c.loop-lexeme.invariant.2 walks u.left u.placed in
-          pass_other u rest (ap references_of step.0 ∙ no_reference c.in-Some.lexeme.token c.in-default.not-Group c.in-Some.lexeme.place (references_of rest)) step.1,
+          pass_other u rest (ap references_of step.0 ∙ no_reference c.in-Some.lexeme.token c.in_default.not-Group c.in-Some.lexeme.place (references_of rest)) step.1,
     )
 
 pub returns : goal.returns

@@ -7,4 +7,4 @@ pub returns : goal.returns
 returns c =
     let self = c.args.self.now in
     let name = c.args.name.now in
-    subst (λ gs. MatchOption c.place-of.result (Known gs name → ⊥) (λ k. Numbered gs name k)) (front self.names self.count) c.place-of.ensures
+    subst (λ gs. MatchOption c.place_of.result (Known gs name → ⊥) (λ k. Numbered gs name k)) (front self.names self.count) c.place_of.ensures
