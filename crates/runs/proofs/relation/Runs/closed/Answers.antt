@@ -5,8 +5,8 @@ use Rattle.runs.proofs.Reaching.{reach_trans}
 use Rattle.runs.proofs.Closing.{From, past_closed, closed_row, from_more}
 use Rattle.runs.proofs.relation.Runs.closed.Goals as goal
 
-pub closed-image-further-requires : goal.closed-image-further-requires
-closed-image-further-requires c m k j h =
+pub closed_image-further-requires : goal.closed_image-further-requires
+closed_image-further-requires c m k j h =
     let was = Ends c.args.self in
     let n = c.args.self.count in
     let i : ℕ = c.loop-i.i - 1 in
@@ -26,10 +26,10 @@ loop-i-preserved c =
     let ends = Has c.union.result.digits in
     let both = c.union.ensures in
     let own = c.insert.ensures in
-    let far = c.closed-image-further.ensures in
+    let far = c.closed_image-further.ensures in
     let but = c.remove.ensures in (
-      c.set-row.ensures.kept ∙ c.loop-i.invariant.0,
-      from_more was n (λ i j h. h.0) c.args.self.onward i is from (Ends c.set-row.new.self) ends c.set-row.ensures.ends (closed_row was n (λ i j h. h.0) c.args.self.onward i is from ends lt (λ j. (
+      c.set_row.ensures.kept ∙ c.loop-i.invariant.0,
+      from_more was n (λ i j h. h.0) c.args.self.onward i is from (Ends c.set_row.new.self) ends c.set_row.ensures.ends (closed_row was n (λ i j h. h.0) c.args.self.onward i is from ends lt (λ j. (
         λ h. ⊎_elim (λ o. inl (⊎_elim (λ a. inl ((row j).0 a)) (λ e. inr e.0) ((own j).0 o))) (λ g. let (m, p, b) = (far j).0 g in let (a, ne) = (but m).0 p in inr (m, ((row m).0 a, ne), b)) ((both j).0 h),
         λ w. (both j).1 (⊎_elim (λ o. inl ((own j).1 (⊎_elim (λ a. inl ((row j).1 a)) (λ e. inr (e, omega arith)) o))) (λ s. inr ((far j).1 (s.0, (but s.0).1 ((row s.0).1 s.1.0, s.1.1), s.2))) w),
       ))),
@@ -41,4 +41,4 @@ invariant_of-result c =
     let closed : Closed c.loop-i.runs = λ i k j a b.
     let (lt, r) = (from.after i k (omega arith)).0 a in
     (from.after i j (omega arith)).1 (lt, reach_trans r ((from.after k j (omega arith)).0 b).1) in
-    (∣ closed ∣₁, tt)
+    record { closed = ∣ closed ∣₁ }

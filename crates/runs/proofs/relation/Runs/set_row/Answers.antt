@@ -3,10 +3,10 @@ use Rattle.runs.proofs.Writing.{at_set}
 use Rattle.runs.proofs.relation.Runs.set_row.Goals as goal
 
 pub invariant_of-self : goal.invariant_of-self
-invariant_of-self c = (
-  c.args.self.now.counted,
-  (λ k j h. ⊎_elim (λ w. subst (λ n. n ≤ j) (sym w.0) (c.requires.onward j w.1)) (λ w. c.args.self.now.onward k j (h.0, w.1)) ((at_set c.args.self.now.rows c.args.i c.args.ends (omega arith) k j).0 h.1), tt),
-)
+invariant_of-self c = record {
+  counted = c.args.self.now.counted;
+  onward = λ k j h. ⊎_elim (λ w. subst (λ n. n ≤ j) (sym w.0) (c.requires.onward j w.1)) (λ w. c.args.self.now.onward k j (h.0, w.1)) ((at_set c.args.self.now.rows c.args.i c.args.ends (omega arith) k j).0 h.1);
+}
 
 pub returns : goal.returns
 returns c = record {
