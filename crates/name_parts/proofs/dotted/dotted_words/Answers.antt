@@ -11,11 +11,11 @@ returns c =
     let words = c.args.words.digits in
     let dots = c.args.dots.digits in
     let one_word : (i j : ℕ) → Ends c.advance-3.new.self i j ↔ OneWord n words dots i j = trans_same c.advance-3.ensures.ends (advanced_same c.start-runs.ensures.ends words) in
-    let a_dot = trans_same c.advance.ensures.ends (advanced_same c.start-dot-word.ensures.ends dots) in
+    let a_dot = trans_same c.advance.ensures.ends (advanced_same c.start-dot_word.ensures.ends dots) in
     let dot_word : (i j : ℕ) → Ends c.advance-2.new.self i j ↔ DotWord n words dots i j = trans_same c.advance-2.ensures.ends (advanced_same a_dot words) in
-    let counted : c.advance-2.new.self.count ≡ n = c.advance-2.ensures.kept ∙ c.advance.ensures.kept ∙ c.start-dot-word.ensures.counted in
+    let counted : c.advance-2.new.self.count ≡ n = c.advance-2.ensures.kept ∙ c.advance.ensures.kept ∙ c.start-dot_word.ensures.counted in
     let from : (i j : ℕ) → ((i < c.advance-2.new.self.count) × Reach (Ends c.advance-2.new.self) i j) ↔ DotWords n words dots i j = λ i j. (λ r. (subst (λ k. i < k) counted r.0, (reach_same dot_word i j).0 r.1), λ r. (subst (λ k. i < k) (sym counted) r.0, (reach_same dot_word i j).1 r.1)) in
     record {
-      counted = c.follow-closed.ensures.kept ∙ c.advance-3.ensures.kept ∙ c.start-runs.ensures.counted;
-      ends = trans_same c.follow-closed.ensures.ends (composed_same one_word (trans_same c.closed.ensures.ends from));
+      counted = c.follow_closed.ensures.kept ∙ c.advance-3.ensures.kept ∙ c.start-runs.ensures.counted;
+      ends = trans_same c.follow_closed.ensures.ends (composed_same one_word (trans_same c.closed.ensures.ends from));
     }

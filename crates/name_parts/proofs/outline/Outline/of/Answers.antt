@@ -6,9 +6,9 @@ use Rattle.name_parts.proofs.outline.Outline.of.Goals as goal
 
 pub loop-start-init : goal.loop-start-init
 loop-start-init c =
-    let same = c.into-iter-start-iterator.ensures.into-iter-gives in (
+    let same = c.into_iter-start-iterator.ensures.into_iter_gives in (
       ap (λ w. w.text.now) same ∙ c.parts-start-items.ensures.text,
-      sofar_none c.into-iter-start-iterator.result.text.now c.blank-outline.result c.blank-outline.ensures c.into-iter-start-iterator.result.at (ap (λ w. w.at) same ∙ c.parts-start-items.ensures.start),
+      sofar_none c.into_iter-start-iterator.result.text.now c.blank-outline.result c.blank-outline.ensures c.into_iter-start-iterator.result.at (ap (λ w. w.at) same ∙ c.parts-start-items.ensures.start),
     )
 
 pub note-requires : goal.note-requires

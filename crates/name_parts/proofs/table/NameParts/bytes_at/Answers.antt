@@ -3,16 +3,16 @@ use Rattle.name_parts.proofs.Holding.{held_start, held_forward, held_within}
 use Rattle.name_parts.proofs.Spelling.{bytes_between}
 use Rattle.name_parts.proofs.table.NameParts.bytes_at.Goals as goal
 
-pub slice-bounds-result-count : goal.slice-bounds-result-count
-slice-bounds-result-count c = let self = c.args.self.now in held_forward self.text.now self.outline self.outlined self.lawful c.args.i c.end-of.result c.requires c.end-of.ensures
+pub slice_bounds-result-count : goal.slice_bounds-result-count
+slice_bounds-result-count c = let self = c.args.self.now in held_forward self.text.now self.outline self.outlined self.lawful c.args.i c.end_of.result c.requires c.end_of.ensures
 
-pub slice-bounds-result-start : goal.slice-bounds-result-start
-slice-bounds-result-start c = let self = c.args.self.now in held_forward self.text.now self.outline self.outlined self.lawful c.args.i c.end-of.result c.requires c.end-of.ensures
+pub slice_bounds-result-start : goal.slice_bounds-result-start
+slice_bounds-result-start c = let self = c.args.self.now in held_forward self.text.now self.outline self.outlined self.lawful c.args.i c.end_of.result c.requires c.end_of.ensures
 
-pub slice-bounds-result-end : goal.slice-bounds-result-end
-slice-bounds-result-end c = let self = c.args.self.now in held_within self.text.now self.outline self.outlined self.lawful c.args.i c.end-of.result c.requires c.end-of.ensures
+pub slice_bounds-result-end : goal.slice_bounds-result-end
+slice_bounds-result-end c = let self = c.args.self.now in held_within self.text.now self.outline self.outlined self.lawful c.args.i c.end_of.result c.requires c.end_of.ensures
 
 pub returns : goal.returns
 returns c ps name p here =
     let self = c.args.self.now in
-    bytes_between ps self.text.now name p c.args.i (get_or self.outline.starts c.args.i 0) c.end-of.result here (held_start self.text.now self.outline self.outlined ps name c.args.i c.requires) (c.end-of.ensures ps name)
+    bytes_between ps self.text.now name p c.args.i (get_or self.outline.starts c.args.i 0) c.end_of.result here (held_start self.text.now self.outline self.outlined ps name c.args.i c.requires) (c.end_of.ensures ps name)
