@@ -14,10 +14,10 @@ returns c =
     let o = c.args.opened.now in
     let name = shown c.args.name.now.text in
     let (ps, is) = lawful_name name c.args.name.now.lawful in
-    let judge = c.judge-groups.new.self in
-    let stays = c.judge-groups.ensures.stays in
+    let judge = c.judge_groups.new.self in
+    let stays = c.judge_groups.ensures.stays in
     let first : IsName (text_of c.new-judge.result.parts) ps = subst (λ text. IsName text ps) (sym c.new-judge.ensures.name) is in
     let last : IsName (text_of judge.parts) ps = subst (λ text. IsName text ps) (sym stays.name) first in
-    let has : (c.has.result ≡ true) ↔ Ends c.judge-text.result 0 (length ps) = subst (λ n. (c.has.result ≡ true) ↔ Ends c.judge-text.result 0 n) (c.count.ensures ps last) c.has.ensures in
-    verdict o name ps is judge (stays.numbers ∙ c.new-judge.ensures.numbers ∙ c.known.ensures) (c.judge-groups.ensures.held ps first) c.judge-text.result
-    (λ tree reads. c.judge-text.ensures ps (groups_of o) last tree (subst (λ text. Reads text tree) (sym c.list.ensures) reads)) c.has.result has
+    let has : (c.has.result ≡ true) ↔ Ends c.judge_text.result 0 (length ps) = subst (λ n. (c.has.result ≡ true) ↔ Ends c.judge_text.result 0 n) (c.count.ensures ps last) c.has.ensures in
+    verdict o name ps is judge (stays.numbers ∙ c.new-judge.ensures.numbers ∙ c.known.ensures) (c.judge_groups.ensures.held ps first) c.judge_text.result
+    (λ tree reads. c.judge_text.ensures ps (groups_of o) last tree (subst (λ text. Reads text tree) (sym c.list.ensures) reads)) c.has.result has

@@ -87,14 +87,14 @@ loop-lexeme-preserved t c =
     let before = c.loop-lexeme in
     let passed = c.next.new.self in
     let walks = walked before.invariant.2 c.in-Some.ensures.steps in
-    let other = c.in-default-token in
+    let other = c.in_default-token in
     let (a, is-atom) = an_atom c.in-Some.lexeme.token other.not-Open other.not-Close other.not-Star other.not-Bar other.not-Group in (
       tt,
       tt,
       walks.kept,
       omega (arith, before.invariant.3, walks.onward),
-      c.push-in-default-token.ensures.first ∙ before.invariant.4,
-      courses_atom c.args.self.now tokens.text.now tokens.at c.args.starts before.tokens.at before.reading before.invariant.5 c.in-Some.lexeme passed.text.now passed.at walks a c.atom.result c.push-in-default-token.new.self is-atom (λ ps is. c.atom.ensures ps is a is-atom) c.push-in-default-token.ensures,
+      c.push-in_default-token.ensures.first ∙ before.invariant.4,
+      courses_atom c.args.self.now tokens.text.now tokens.at c.args.starts before.tokens.at before.reading before.invariant.5 c.in-Some.lexeme passed.text.now passed.at walks a c.atom.result c.push-in_default-token.new.self is-atom (λ ps is. c.atom.ensures ps is a is-atom) c.push-in_default-token.ensures,
     )
 
 pub returns : goal.returns
@@ -102,7 +102,7 @@ returns t c =
     let tokens = c.args.tokens.now in
     let before = c.loop-lexeme in
     let passed = c.next.new.self in
-    let walks = walked before.invariant.2 c.in-default.ensures.steps in
+    let walks = walked before.invariant.2 c.in_default.ensures.steps in
     record {
       kept = walks.kept;
       onward = omega (arith, before.invariant.3, walks.found.forward, walks.end);

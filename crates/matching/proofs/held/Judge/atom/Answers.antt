@@ -18,8 +18,8 @@ the_atom token known a b e f h = let f' : sign token ≡ atom b = subst (λ t. s
 pub returns-in-Word : goal.returns-in-Word
 returns-in-Word c ps is a e =
     let w = c.in-Word.bytes.now in
-    subst (λ b. StepMeans ps (AtomDerives exact b) (Place c.places-of.result)) (the_atom _ _ a (Trees.word w) c.in-Word.is refl e)
-    (word_means ps w c.places-of.result c.everywhere.result is.few (c.everywhere.ensures ps is) (c.places-of.ensures ps is))
+    subst (λ b. StepMeans ps (AtomDerives exact b) (Place c.places_of.result)) (the_atom _ _ a (Trees.word w) c.in-Word.is refl e)
+    (word_means ps w c.places_of.result c.everywhere.result is.few (c.everywhere.ensures ps is) (c.places_of.ensures ps is))
 
 pub returns-in-Dot : goal.returns-in-Dot
 returns-in-Dot c ps is a e = subst (λ b. StepMeans ps (AtomDerives exact b) (Place c.dots.result)) (the_atom _ _ a Trees.dot c.in-Dot.is refl e) (part_means ps dot c.dots.result is.few (c.dots.ensures ps is) (λ i j. span_atom_dot))
@@ -31,4 +31,4 @@ pub returns-in-Plus : goal.returns-in-Plus
 returns-in-Plus c ps is a e = subst (λ b. StepMeans ps (AtomDerives exact b) (Place c.pluses.result)) (the_atom _ _ a Trees.plus c.in-Plus.is refl e) (part_means ps plus c.pluses.result is.few (c.pluses.ensures ps is) (λ i j. span_atom_plus))
 
 pub returns-in-Any : goal.returns-in-Any
-returns-in-Any c ps is a e = subst (λ b. StepMeans ps (AtomDerives exact b) (Each c.partial-names.result.now)) (the_atom _ _ a Trees.any c.in-Any.is refl e) (any_means ps c.partial-names.result.now (c.partial-names.ensures ps is).counted (c.partial-names.ensures ps is).ends)
+returns-in-Any c ps is a e = subst (λ b. StepMeans ps (AtomDerives exact b) (Each c.partial_names.result.now)) (the_atom _ _ a Trees.any c.in-Any.is refl e) (any_means ps c.partial_names.result.now (c.partial_names.ensures ps is).counted (c.partial_names.ensures ps is).ends)

@@ -15,8 +15,8 @@ use Rattle.matching.proofs.held.Judge.group.Goals as goal
 few : (K : KnownGroups) (g : Name) (k : ℕ) → Numbered (known K) g k → k < 32
 few K g k n = omega (arith, n.below, known_count K, K.few)
 
-pub offset-bounds-self-k : goal.offset-bounds-self-k
-offset-bounds-self-k c = Fits-below {n = 16640} tt (omega (arith, few c.args.self.now.known.now _ c.in-Some.k c.in-Some.ensures))
+pub offset_bounds-self-k : goal.offset_bounds-self-k
+offset_bounds-self-k c = Fits-below {n = 16640} tt (omega (arith, few c.args.self.now.known.now _ c.in-Some.k c.in-Some.ensures))
 
 pub listed : goal.listed
 listed c = omega (arith, few c.args.self.now.known.now _ c.in-Some.k c.in-Some.ensures, c.args.self.now.room)

@@ -3,8 +3,8 @@ use Rattle.openings.specs.Answers.{groups_of}
 use Rattle.matching.proofs.Views.{texts_count}
 use Rattle.matching.proofs.held.Judge.judge_groups.Goals as goal
 
-pub judge-group-judged-requires : goal.judge-group-judged-requires
-judge-group-judged-requires c = record {
+pub judge_group-judged-requires : goal.judge_group-judged-requires
+judge_group-judged-requires c = record {
   inside = omega (arith, texts_count (groups_of c.args.opened.now) c.texts-k-end.result.now c.texts-k-end.ensures);
   numbers = c.loop-k.invariant.0.stays.numbers ∙ c.requires;
 }

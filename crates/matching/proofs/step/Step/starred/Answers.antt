@@ -4,8 +4,8 @@ use Rattle.matching.proofs.step.Step.starred.Goals as goal
 
 pub returns : goal.returns
 returns c whole =
-    let counted = c.into-runs.ensures.counted whole in
-    let ends = c.into-runs.ensures.ends whole in
+    let counted = c.into_runs.ensures.counted whole in
+    let ends = c.into_runs.ensures.ends whole in
     let closed = c.closed.ensures in
     record {
       counted = closed.kept ∙ counted;
