@@ -1,7 +1,6 @@
 -- What the register leaves, as the table.
-use Rattle.std.proofs.Common.{◌≡◌, ℕ, true, List, length, is_some, Some, None, Option, sym, refl, ap, ◌∙◌, subst}
+use Rattle.std.proofs.Common.{◌≡◌, ℕ, List, length, is_some, Some, None, sym, ap, ◌∙◌}
 use Rattle.std.proofs.lemmas.List.{length-map}
-use Rattle.std.specs.Option.{option_map}
 use Rattle.texts.specs.Shown.{shown}
 use Rattle.registers.specs.declared.register.Register.{Register}
 use Rattle.registers.specs.Rows.{found}

@@ -3,7 +3,7 @@ use Rattle.std.proofs.Common.{◌≡◌, ℕ, Bool, true, false, cond, not, List
 use Rattle.std.proofs.lemmas.Slice.Eq.{bytes_eq-Decides}
 use Rattle.std.proofs.lemmas.Bool.{cond-true, cond-false, cases_Bool}
 use Rattle.std.specs.Str.{bytes_eq}
-use Rattle.books.specs.Tables.{Entry, Table, text_of, begins, keep, divided}
+use Rattle.books.specs.Tables.{Table, text_of, begins, keep, divided}
 
 cond_same : (b : Bool) (x : Option (List ℕ)) → x ≡ cond b x x
 cond_same true x = refl

@@ -1,6 +1,5 @@
 -- A divided table is lawful where its two are.
 use Rattle.std.specs.Prelude.{ℕ, Bool, true, false, cond, not, List, [], ◌∷◌, ◌++◌}
-use Rattle.std.specs.List.{AllByRecursion}
 use Rattle.books.specs.Tables.{Entry, Table, LawfulEntry, LawfulTable, begins, keep, divided}
 
 kept : (b : Bool) (e : Entry) (t : Table) → LawfulEntry e → LawfulTable t → LawfulTable (cond b (e ∷ t) t)

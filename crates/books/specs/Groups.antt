@@ -1,5 +1,5 @@
 -- The groups of a table book, and the table that they are.
-use Rattle.std.specs.Prelude.{◌≡◌, ℕ, List, [], ◌∷◌, map, length}
+use Rattle.std.specs.Prelude.{ℕ, List, [], ◌∷◌, map}
 use Rattle.texts.specs.Shown.{shown}
 use Rattle.books.specs.declared.row.Group.{Group}
 use Rattle.std.proofs.Common.{arith, length-take}

@@ -1,13 +1,13 @@
 -- Readings that follow one another.
-use Rattle.std.proofs.Common.{◌≡◌, ℕ, zero, suc, ◌+◌, ◌-◌, ◌<◌, ◌≤◌, Bool, true, false, cond, ◌⊎◌, List, [], ◌∷◌, ◌++◌, length, take, drop, Some, None, Option, sym, refl, ap, ◌∙◌, subst, inl, inr, ⊎_elim, arith}
+use Rattle.std.proofs.Common.{◌≡◌, ℕ, zero, suc, ◌-◌, ◌≤◌, Bool, false, ◌⊎◌, List, [], ◌∷◌, length, take, drop, Some, Option, sym, refl, ap, ◌∙◌, subst, inl, inr, ⊎_elim, arith}
 use Rattle.std.proofs.lemmas.Bool.{cond-false}
 use Rattle.names.specs.Words.{word_byte}
 use Rattle.lists.specs.Trees.{Sign}
-use Rattle.lists.specs.Bytes.{blanks, part, Past}
+use Rattle.lists.specs.Bytes.{part, Past}
 use Rattle.lists.specs.Tokens.{Shows, shows_word, shows_mark, shows_group}
 use Rattle.lists.specs.Lexemes.{Gap, TokenAt}
-use Rattle.lists.specs.Machine.{At, within, sign_step, State, out, word, brace, name, braced, item, lift, byte_step, reads, start, Stands, Leads}
-use Rattle.lists.proofs.Machine.{Rests, Lands, reads_append, reads_blanks, out_sign, out_reads_word, reads_group}
+use Rattle.lists.specs.Machine.{At, within, sign_step, State, out, word, brace, name, braced, lift, byte_step, reads, Stands, Leads}
+use Rattle.lists.proofs.Machine.{Rests, reads_append, reads_blanks, out_sign, out_reads_word, reads_group}
 use Rattle.lists.proofs.Segments.{part_length, part_join, part_none}
 use Rattle.lists.proofs.Lexing.{gap_blanks}
 use Rattle.lists.proofs.Tallies.{is_brace, depth}

@@ -1,5 +1,5 @@
 -- The check of a group name that is given alone.
-use Rattle.std.proofs.Common.{◌≡◌, ℕ, ◌+◌, ◌-◌, ◌<◌, ◌≤◌, Bool, true, false, ◌⊎◌, List, [], ◌∷◌, ◌++◌, length, get_or, take, drop, sym, refl, ap, ◌∙◌, subst, inl, inr, ⊎_elim, append_assoc, append-nil, arith, length-append}
+use Rattle.std.proofs.Common.{◌≡◌, ℕ, ◌-◌, ◌<◌, ◌≤◌, true, ◌⊎◌, List, [], ◌∷◌, ◌++◌, length, get_or, take, sym, refl, ap, ◌∙◌, subst, ⊎_elim, append-nil, arith}
 use borrow.Author.Tests.{clash}
 use Rattle.std.proofs.slice.Lists.{all_by_recursion_push}
 use Rattle.std.proofs.lemmas.List.{take_more, take_all, length_push}
@@ -11,10 +11,10 @@ use Rattle.faults.specs.Answers.{Accepted, Refused}
 use Rattle.names.specs.Language.{Stuck}
 use Rattle.names.specs.Faults.{fault}
 use Rattle.names.proofs.Leaving.{stuck_out, stuck_unique, accepted, refused}
-use Rattle.lists.specs.Bytes.{group_byte, IsGroupName, part, Past, Run}
+use Rattle.lists.specs.Bytes.{group_byte, IsGroupName, Run}
 use Rattle.lists.specs.GroupNames.{GroupBytes, GroupNameFault, long_name, stuck_name}
 use Rattle.lists.proofs.Viable.{group_letter}
-use Rattle.lists.proofs.Segments.{past_at, every_append}
+use Rattle.lists.proofs.Segments.{past_at}
 
 abbrev AllGroup : List ℕ → Type 0
 AllGroup t = AllByRecursion (λ b. group_byte b ≡ true) t

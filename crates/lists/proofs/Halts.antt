@@ -1,26 +1,24 @@
 -- Where a reading halts, the text leaves the grammar.
-use Rattle.std.proofs.Common.{◌≡◌, ℕ, zero, suc, ◌+◌, ◌-◌, ◌<◌, ◌≤◌, Bool, true, false, cond, eqb, ltb, leb, ◌⊎◌, List, [], ◌∷◌, ◌++◌, length, get_or, take, drop, replicate, Some, None, Option, sym, refl, ap, ◌∙◌, subst, inl, inr, ⊎_elim, append_assoc, append-nil, arith, length-append, ne_eqb, le-leb}
+use Rattle.std.proofs.Common.{◌≡◌, ℕ, zero, suc, ◌+◌, ◌-◌, ◌<◌, ◌≤◌, Bool, true, false, ◌⊎◌, List, [], ◌∷◌, ◌++◌, length, get_or, take, drop, replicate, Some, None, sym, refl, ap, ◌∙◌, subst, inl, inr, ⊎_elim, append-nil, arith, le-leb}
 use borrow.Author.Tests.{clash, lt-leb}
-use Rattle.std.proofs.lemmas.List.{drop_more, drop_all, take_all, take_at}
+use Rattle.std.proofs.lemmas.List.{drop_more, drop_all, take_all}
 use Rattle.std.proofs.lemmas.Bool.{cond-true, cond-false, cases_lt}
-use Rattle.std.specs.List.{AllByRecursion}
 use Rattle.faults.specs.declared.kind.Kind.{Kind}
-use Rattle.faults.specs.declared.kind.Kind.TheVariants.{ByteNotAllowedInList, WordTooLongInList, ItemMissing, BracketUnmatched, BracketsTooDeep, GroupNameUnlawful}
-use Rattle.names.specs.Language.{Begins, Stuck}
-use Rattle.names.specs.Words.{word_byte, count_of}
+use Rattle.faults.specs.declared.kind.Kind.TheVariants.{ItemMissing, GroupNameUnlawful}
+use Rattle.names.specs.Language.{Stuck}
+use Rattle.names.specs.Words.{word_byte}
 use Rattle.names.specs.Faults.{fault}
 use Rattle.names.proofs.Machine.{blocked, ended}
 use Rattle.lists.specs.Trees.{Sign, Tree, empty, list}
-use Rattle.lists.specs.Bytes.{group_byte, blanks, sign_of, part}
+use Rattle.lists.specs.Bytes.{group_byte, blanks, part}
 use Rattle.lists.specs.Tokens.{Spells, ends, next}
 use Rattle.lists.specs.Texts.{ItemText, ListText, tree_signs, tree_depth}
-use Rattle.lists.specs.Lexemes.{NoSign}
-use Rattle.lists.specs.Faults.{in_braces, unmatched, kind_here, kind_at, Slip, stuck}
+use Rattle.lists.specs.Faults.{unmatched, kind_here, kind_at, Slip, stuck}
 use Rattle.lists.specs.Machine.{NotBlank, At, within, State, out, word, brace, name, braced, byte_step, reads, start, Stands, Leads}
 use Rattle.lists.proofs.Machine.{Rests, Lands, lands_none, reads_append, out_sign}
-use Rattle.lists.proofs.Viable.{item_lands, reads_item, accepts, viable, is_close, close_out, letter_item}
+use Rattle.lists.proofs.Viable.{item_lands, accepts, viable, is_close, close_out, letter_item}
 use Rattle.lists.proofs.Tallies.{is_brace, depth, tally}
-use Rattle.lists.proofs.Course.{Alike, alike_step, alike_brace, alike_depth, onward}
+use Rattle.lists.proofs.Course.{Alike, alike_step, alike_brace, onward}
 use Rattle.lists.proofs.Segments.{part_join}
 
 pub item_list : {t : List ℕ} → ItemText t → ListText t

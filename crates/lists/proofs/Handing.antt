@@ -1,16 +1,16 @@
 -- The tokens that the reader hands out, with the blanks between them, are the text again.
-use Rattle.std.proofs.Common.{◌≡◌, ℕ, zero, suc, ◌+◌, ◌-◌, ◌<◌, ◌≤◌, Bool, true, false, eqb, List, [], ◌∷◌, ◌++◌, length, get_or, take, drop, Some, sym, refl, ap, ◌∙◌, subst, append-nil, arith, length-append, length-drop, ne_eqb}
+use Rattle.std.proofs.Common.{◌≡◌, ℕ, zero, suc, ◌+◌, ◌-◌, ◌<◌, ◌≤◌, Bool, true, List, [], ◌∷◌, ◌++◌, length, take, drop, sym, refl, ap, ◌∙◌, subst, append-nil, arith, length-append, length-drop, ne_eqb}
 use borrow.Author.Tests.{clash}
 use lib.ListN.{length-replicate}
-use Rattle.std.proofs.lemmas.List.{drop_all, drop-drop, take_at, drop_at, take_all}
+use Rattle.std.proofs.lemmas.List.{drop_all, drop-drop, take_at, drop_at}
 use Rattle.std.specs.List.{AllByRecursion}
 use Rattle.names.specs.Words.{word_byte}
 use Rattle.lists.specs.Trees.{Sign}
-use Rattle.lists.specs.Bytes.{blanks, sign_of, part, Past, Run}
+use Rattle.lists.specs.Bytes.{blanks, part, Past, Run}
 use Rattle.lists.specs.Tokens.{Shows, shows_word, shows_mark, shows_group, Spells, ends, next}
-use Rattle.lists.specs.Lexemes.{Gap, is_blank, TokenAt, Handed, all, first}
+use Rattle.lists.specs.Lexemes.{Gap, is_blank, Handed, all, first}
 use Rattle.lists.proofs.Machine.{blank_out, sign_apart}
-use Rattle.lists.proofs.Segments.{drop_part, part_length, past_end}
+use Rattle.lists.proofs.Segments.{drop_part}
 use Rattle.lists.proofs.Lexing.{gap_blanks}
 
 module _ (text : List ℕ) where

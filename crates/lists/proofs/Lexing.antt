@@ -1,15 +1,15 @@
 -- What the reader finds at a place.
-use Rattle.std.proofs.Common.{◌≡◌, ℕ, ◌+◌, ◌-◌, ◌<◌, ◌≤◌, Bool, true, false, eqb, List, [], ◌∷◌, ◌++◌, length, get_or, take, drop, Some, None, sym, refl, ap, ◌∙◌, subst, ⊎_elim, arith, ne_eqb}
+use Rattle.std.proofs.Common.{◌≡◌, ℕ, ◌+◌, ◌-◌, ◌<◌, ◌≤◌, Bool, true, false, eqb, List, [], ◌∷◌, ◌++◌, length, get_or, drop, Some, sym, ap, ◌∙◌, subst, ⊎_elim, arith}
 use borrow.Author.Tests.{clash}
 use Rattle.std.proofs.lemmas.Bool.{cases_lt}
 use Rattle.std.specs.List.{AllByRecursion}
 use Rattle.faults.specs.declared.kind.Kind.TheVariants.{WordTooLongInList, GroupNameUnlawful}
-use Rattle.names.specs.Words.{word_byte, WordBytes}
+use Rattle.names.specs.Words.{word_byte}
 use Rattle.names.specs.Faults.{fault}
 use Rattle.lists.specs.Trees.{Sign, atom, word, group}
 use Rattle.lists.specs.Bytes.{group_byte, IsGroupName, blanks, sign_of, part, Past, Run}
 use Rattle.lists.specs.Tokens.{Shows, shows_word, shows_mark, shows_group}
-use Rattle.lists.specs.Lexemes.{Gap, is_blank, is_closing, TokenAt, TokenFault, long_word, no_name, long_name, no_brace}
+use Rattle.lists.specs.Lexemes.{Gap, is_closing, TokenAt, TokenFault, long_word, no_name, long_name, no_brace}
 use Rattle.lists.proofs.Segments.{part_length, part_join, part_one, past_byte, past_end, past_at, all_blanks, every_append}
 
 module _ (text : List ℕ) where

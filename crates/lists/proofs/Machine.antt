@@ -1,14 +1,14 @@
 -- What the machine reads: words, group names and marks with blanks between them.
-use Rattle.std.proofs.Common.{◌≡◌, ℕ, zero, suc, ◌+◌, ◌-◌, ◌<◌, ◌≤◌, Bool, true, false, cond, eqb, ltb, ◌⊎◌, List, [], ◌∷◌, ◌++◌, length, replicate, Some, None, Option, sym, refl, ap, ◌∙◌, subst, inl, inr, ⊎_elim, append_assoc, append-nil, arith, ltb-true, le-ltb, lt-ltb, eq-eqb, ne_eqb, eqb-true}
-use borrow.Author.Tests.{eqb-false, clash}
-use Rattle.std.proofs.lemmas.Bool.{cond-true, cond-false, cond_both, cases_Bool}
+use Rattle.std.proofs.Common.{◌≡◌, ℕ, zero, suc, ◌+◌, ◌≤◌, true, false, eqb, List, [], ◌∷◌, ◌++◌, length, Some, None, Option, sym, refl, ap, ◌∙◌, subst, append_assoc, arith, lt-ltb, ne_eqb, eqb-true}
+use borrow.Author.Tests.{clash}
+use Rattle.std.proofs.lemmas.Bool.{cond-true, cond-false, cond_both}
 use Rattle.std.specs.List.{AllByRecursion}
 use Rattle.names.specs.Words.{word_byte, WordBytes, Word}
 use Rattle.names.proofs.Machine.{run_append, run_none}
-use Rattle.lists.specs.Trees.{Sign, atom, dot, at, plus, any, group, open_bracket, close_bracket, star, bar}
+use Rattle.lists.specs.Trees.{Sign, atom, dot, at, plus, any, open_bracket, close_bracket, star, bar}
 use Rattle.lists.specs.Bytes.{group_byte, IsGroupName, blanks, sign_of, Past}
 use Rattle.lists.specs.Tokens.{Shows, shows_word, shows_mark, shows_group, Spells, ends, next}
-use Rattle.lists.specs.Machine.{At, within, sign_step, State, out, word, brace, name, braced, item, lift, signed, out_step, braced_step, byte_step, reads}
+use Rattle.lists.specs.Machine.{At, within, sign_step, State, out, word, brace, name, braced, item, lift, signed, out_step, byte_step, reads}
 use Rattle.lists.proofs.Signs.{sign_run, sign_run_none}
 
 -- the reading has come to a place between signs, or to the end of a word

@@ -1,11 +1,11 @@
 -- A text has one fault at most, and none if it is lawful.
-use Rattle.std.proofs.Common.{◌≡◌, ℕ, suc, ◌+◌, ◌-◌, ◌<◌, ◌≤◌, true, false, List, [], ◌∷◌, ◌++◌, length, get_or, take, drop, replicate, Some, None, Option, sym, refl, ap, ◌∙◌, subst, ⊎_elim, append-nil, add-one, arith}
+use Rattle.std.proofs.Common.{◌≡◌, ℕ, ◌+◌, ◌<◌, ◌≤◌, true, false, List, [], ◌∷◌, ◌++◌, length, get_or, drop, replicate, Some, None, Option, sym, refl, ap, ◌∙◌, subst, ⊎_elim, append-nil, add-one, arith}
 use lib.ListN.{length-replicate}
 use Rattle.std.proofs.lemmas.List.{drop_more, get_or-replicate}
 use Rattle.std.proofs.lemmas.Bool.{cond-false, cases_lt, cases_order}
 use Rattle.faults.specs.declared.fault.Fault.{Fault}
 use Rattle.faults.specs.declared.kind.Kind.TheVariants.{BracketUnmatched}
-use Rattle.names.specs.Language.{Begins, Stuck}
+use Rattle.names.specs.Language.{Stuck}
 use Rattle.names.specs.Words.{count_of}
 use Rattle.names.specs.Faults.{fault}
 use Rattle.names.proofs.Leaving.{stuck_out, stuck_unique}

@@ -1,6 +1,6 @@
 -- Parts of a text, one after another.
-use Rattle.std.proofs.Common.{◌≡◌, ℕ, zero, suc, ◌+◌, ◌-◌, ◌<◌, ◌≤◌, Bool, true, false, eqb, List, [], ◌∷◌, ◌++◌, length, get_or, take, drop, replicate, sym, refl, ap, ◌∙◌, subst, arith, length-drop, take-append-drop, length-take, eqb-true}
-use Rattle.std.proofs.lemmas.List.{drop_more, drop_all, drop-drop, take_more, take_all, length-take-le, get_or-drop}
+use Rattle.std.proofs.Common.{◌≡◌, ℕ, zero, suc, ◌+◌, ◌-◌, ◌<◌, ◌≤◌, Bool, true, false, eqb, List, [], ◌∷◌, ◌++◌, length, get_or, take, drop, sym, refl, ap, ◌∙◌, subst, arith, length-drop, take-append-drop, eqb-true}
+use Rattle.std.proofs.lemmas.List.{drop_more, drop_all, drop-drop, take_more, length-take-le, get_or-drop}
 use Rattle.std.specs.List.{AllByRecursion}
 use Rattle.lists.specs.Bytes.{part, Past, blanks}
 

@@ -1,8 +1,8 @@
 -- What the machine of signs reads.
-use Rattle.std.proofs.Common.{◌≡◌, ℕ, ◌+◌, ◌-◌, ◌<◌, ◌≤◌, Bool, true, false, cond, ltb, List, [], ◌∷◌, ◌++◌, Some, None, Option, refl, ap, ◌∙◌, arith}
+use Rattle.std.proofs.Common.{◌≡◌, ℕ, ◌+◌, ◌<◌, ◌≤◌, Bool, true, false, List, [], ◌∷◌, ◌++◌, Some, None, Option, refl, ap, ◌∙◌, arith}
 use Rattle.std.proofs.lemmas.Bool.{cond-true, lt-ltb}
 use Rattle.lists.specs.Machine.{At, within, sign_step}
-use Rattle.lists.specs.Trees.{Sign, atom, group, open_bracket, close_bracket, star, bar, Item, plain, bracket, starred, named, Seq, one, then, Alts, only, or, item_signs, seq_signs, alts_signs, item_depth, seq_depth, alts_depth}
+use Rattle.lists.specs.Trees.{Sign, open_bracket, close_bracket, star, bar, Item, plain, bracket, starred, named, Seq, one, then, Alts, only, or, item_signs, seq_signs, alts_signs, item_depth, seq_depth, alts_depth}
 
 abbrev pub sign_next : Option At → Sign → Option At
 sign_next None s = None

@@ -1,9 +1,8 @@
 -- Each fault of the check, from what the reader found.
-use Rattle.std.proofs.Common.{◌≡◌, ℕ, zero, suc, ◌+◌, ◌-◌, ◌<◌, ◌≤◌, Bool, true, false, cond, ◌||◌, eqb, ltb, leb, ◌⊎◌, List, [], ◌∷◌, ◌++◌, length, get_or, take, drop, replicate, Some, None, Ok, Err, Option, Result, sym, refl, ap, ◌∙◌, subst, inl, inr, ⊎_elim, arith, ltb-false, le-ltb, lt-ltb, eqb-true, MatchResult}
-use borrow.Author.Tests.{clash}
+use Rattle.std.proofs.Common.{◌≡◌, ℕ, zero, suc, ◌+◌, ◌-◌, ◌<◌, ◌≤◌, Bool, true, false, cond, ◌||◌, eqb, ltb, List, [], ◌∷◌, ◌++◌, length, get_or, take, drop, Some, None, Ok, Err, Option, Result, sym, refl, ap, ◌∙◌, subst, ⊎_elim, arith, le-ltb, lt-ltb, eqb-true, MatchResult}
 use Rattle.std.proofs.lemmas.List.{take_all, take_rest}
 use Rattle.std.proofs.lemmas.List.Edits.{get_or-between}
-use Rattle.std.proofs.lemmas.Bool.{cond-true, cond-false, cases_Bool, cases_lt}
+use Rattle.std.proofs.lemmas.Bool.{cond-true, cond-false, cases_Bool}
 use Rattle.std.specs.List.{AllByRecursion}
 use Rattle.faults.specs.declared.fault.Fault.{Fault}
 use Rattle.faults.specs.declared.kind.Kind.{Kind}
@@ -16,14 +15,14 @@ use Rattle.lists.specs.Tokens.{Shows, shows_word, shows_mark, shows_group}
 use Rattle.lists.specs.declared.token.Token.{Token}
 use Rattle.lists.specs.declared.token.Token.TheVariants.{Word as Token-Word, Dot, At as Token-At, Plus, Any, Open, Close, Star, Bar, Group}
 use Rattle.lists.specs.Lexemes.{sign, Gap, is_blank, is_closing, TokenAt, NoSign, TokenFault, bad_byte, long_word, no_name, long_name, no_brace}
-use Rattle.lists.specs.Faults.{unmatched, kind_here, kind_at, Slip, unclosed}
+use Rattle.lists.specs.Faults.{unmatched, kind_here, Slip, unclosed}
 use Rattle.lists.specs.Machine.{Closes, NotBlank, At, within, sign_step, State, out, word, brace, name, braced, item, lift, signed, byte_step, reads, start, Stands, Leads, Enters, ListRead, ItemRead}
 use Rattle.lists.proofs.Machine.{Lands, reads_append, reads_blanks, out_sign, out_brace, out_reads_word, brace_reads_name, blank_ungrouped, sign_cases}
 use Rattle.lists.proofs.Viable.{reads_item, closes_item}
 use Rattle.lists.proofs.Segments.{part_length, part_join, part_none, part_one, part_more, past_at, every_append}
 use Rattle.lists.proofs.Lexing.{gap_blanks}
 use Rattle.lists.proofs.Tallies.{is_brace, depth}
-use Rattle.lists.proofs.Course.{Alike, alike_brace, alike_depth, gap_reads, gap_leads, leads_join, token_leads, stands_lands}
+use Rattle.lists.proofs.Course.{alike_brace, alike_depth, gap_reads, gap_leads, leads_join, token_leads, stands_lands}
 use Rattle.lists.proofs.Halts.{item_list, Halt, Stop, halt_slip, stop_halt, kind_braced, kind_byte, kind_end, unmatched_none, unmatched_some, due_unfinished}
 
 -- the byte that is a sign by itself

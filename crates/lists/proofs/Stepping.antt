@@ -6,7 +6,7 @@ use Rattle.lists.specs.declared.token.Lexeme.{Lexeme}
 use Rattle.lists.specs.Trees.{Sign, atom, group, open_bracket, close_bracket, star, bar}
 use Rattle.lists.specs.Bytes.{IsGroupName}
 use Rattle.lists.specs.Tokens.{Shows, shows_word, shows_mark, shows_group}
-use Rattle.lists.specs.Lexemes.{sign, TokenAt, Next, is_blank}
+use Rattle.lists.specs.Lexemes.{TokenAt, Next, is_blank}
 use Rattle.lists.specs.Placed.{Placed, none, more, Walks}
 use Rattle.lists.proofs.Machine.{sign_cases}
 use Rattle.lists.proofs.Segments.{part_none, past_end}

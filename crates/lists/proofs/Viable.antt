@@ -1,14 +1,13 @@
 -- The machine accepts every list that has an item, and goes on only where one goes on.
-use Rattle.std.proofs.Common.{◌≡◌, ℕ, zero, suc, ◌+◌, ◌-◌, ◌<◌, ◌≤◌, Bool, true, false, cond, eqb, ltb, ◌⊎◌, List, [], ◌∷◌, ◌++◌, length, replicate, Some, None, Option, sym, refl, ap, ◌∙◌, subst, inl, inr, ⊎_elim, arith, lt-ltb}
-use borrow.Author.Tests.{clash}
-use Rattle.std.proofs.lemmas.Bool.{cond-true, cond-false, cases_Bool}
+use Rattle.std.proofs.Common.{◌≡◌, ℕ, zero, suc, ◌-◌, Bool, true, false, cond, ltb, List, [], ◌∷◌, ◌++◌, replicate, Some, None, Option, sym, refl, ap, ◌∙◌, subst, arith, lt-ltb}
+use Rattle.std.proofs.lemmas.Bool.{cond-true, cond-false}
 use Rattle.names.specs.Language.{Begins}
 use Rattle.names.specs.Words.{word_byte}
-use Rattle.lists.specs.Trees.{Sign, close_bracket}
+use Rattle.lists.specs.Trees.{close_bracket}
 use Rattle.lists.specs.Bytes.{group_byte, blanks, sign_of, Past}
 use Rattle.lists.specs.Tokens.{Spells}
 use Rattle.lists.specs.Texts.{ItemText}
-use Rattle.lists.specs.Machine.{At, within, State, out, word, brace, name, braced, lift, out_step, byte_step, reads, start}
+use Rattle.lists.specs.Machine.{within, State, out, word, brace, name, braced, lift, out_step, reads, start}
 use Rattle.lists.proofs.Signs.{run_alts}
 use Rattle.lists.proofs.Parse.{parse}
 use Rattle.lists.proofs.Machine.{Rests, Lands, reads_append, reads_blanks, out_word, out_sign, word_past, spells_reads, blank_out, close_ungrouped}

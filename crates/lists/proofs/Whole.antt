@@ -1,10 +1,10 @@
 -- What the check of a whole text answers.
-use Rattle.std.proofs.Common.{◌≡◌, ℕ, ◌-◌, ◌<◌, ◌≤◌, true, false, List, [], length, get_or, take, Some, None, Option, sym, refl, ap, ◌∙◌, subst, arith, eq-eqb}
+use Rattle.std.proofs.Common.{◌≡◌, ℕ, ◌-◌, ◌<◌, ◌≤◌, false, List, [], length, get_or, Some, None, Option, sym, ap, ◌∙◌, subst, arith, eq-eqb}
 use borrow.Author.Tests.{clash}
 use lib.ListN.{length-replicate}
 use Rattle.std.proofs.lemmas.List.{take_all, get_or-replicate}
 use Rattle.lists.specs.Trees.{empty}
-use Rattle.lists.specs.Bytes.{blanks, part}
+use Rattle.lists.specs.Bytes.{part}
 use Rattle.lists.specs.Tokens.{Spells, ends}
 use Rattle.lists.specs.Texts.{ListText}
 use Rattle.lists.specs.Lexemes.{Gap, is_blank}

@@ -1,5 +1,5 @@
 -- Judging what a group leads to: some of it is judged, and the rest is ahead.
-use Rattle.std.proofs.Common.{◌≡◌, ℕ, ◌+◌, ◌<◌, ◌≤◌, ◌≢◌, ◌⊎◌, ◌↔◌, List, [], length, get_or, set, sym, refl, ap, ◌∙◌, subst, inl, inr, ⊎_elim, arith, get_or-set_other, get_or-set_same}
+use Rattle.std.proofs.Common.{◌≡◌, ℕ, ◌+◌, ◌<◌, ◌≢◌, ◌⊎◌, ◌↔◌, List, [], length, get_or, set, sym, refl, ap, ◌∙◌, subst, inl, inr, ⊎_elim, get_or-set_other, get_or-set_same}
 use Rattle.std.proofs.lemmas.Bool.{cases_eq}
 use Rattle.positions.specs.Places.{Has, Split}
 use Rattle.links.specs.declared.links.Links.{Links}
@@ -15,7 +15,7 @@ use Rattle.openings.specs.Holding.{known}
 use Rattle.openings.specs.Whole.{Tells}
 use Rattle.matching.specs.declared.held.Judge.{Judge}
 use Rattle.matching.specs.Judging.{Means, Derived, TreeReady}
-use Rattle.matching.specs.Ordering.{Stays, Goes, AllHeld}
+use Rattle.matching.specs.Ordering.{Stays, Goes}
 use Rattle.matching.proofs.Grounds.{Grounds, same_links}
 use Rattle.matching.proofs.Readiness.{text_ready}
 

@@ -1,5 +1,5 @@
 -- What the step of an atom means.
-use Rattle.std.proofs.Common.{◌≡◌, ℕ, ◌+◌, ◌<◌, ◌≤◌, ◌↔◌, List, length, sym, refl, ap, ◌∙◌, subst, arith}
+use Rattle.std.proofs.Common.{◌≡◌, ℕ, ◌+◌, ◌<◌, ◌≤◌, ◌↔◌, List, length, sym, refl, subst, arith}
 use mathlib.Core.Logic.Iff
 use Rattle.positions.specs.declared.Positions.{Positions}
 use Rattle.positions.specs.Places.{Has}

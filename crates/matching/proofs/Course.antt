@@ -1,7 +1,7 @@
 -- The course of a judgement: what has been read, what is left, and what each token changes.
-use Rattle.std.proofs.Common.{◌≡◌, ℕ, ◌+◌, List, [], ◌∷◌, ◌++◌, length, sym, refl, ap, ◌∙◌, subst, ⊎_elim, append_assoc, arith}
+use Rattle.std.proofs.Common.{◌≡◌, ℕ, ◌+◌, List, [], ◌∷◌, ◌++◌, length, sym, ap, ◌∙◌, subst, ⊎_elim, append_assoc, arith}
 use Rattle.names.specs.Names.{Part}
-use Rattle.lists.specs.Trees.{Atom, Sign, atom, group, open_bracket, close_bracket, star, bar, plain, bracket, named, Alts, Tree, empty, list, alts_signs}
+use Rattle.lists.specs.Trees.{Atom, Sign, atom, group, open_bracket, close_bracket, star, bar, plain, bracket, named, Alts, Tree, list, alts_signs}
 use Rattle.lists.specs.Texts.{tree_signs}
 use Rattle.lists.specs.Placed.{Placed, signs_of}
 use Rattle.lists.proofs.Build.{Level, fresh, barred, full, put, star_alts}

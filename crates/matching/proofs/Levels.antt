@@ -1,5 +1,5 @@
 -- What a reading holds when a part of a list has been read, and how each sign changes it.
-use Rattle.std.proofs.Common.{◌≡◌, ℕ, ◌+◌, ◌<◌, ◌⊎◌, ◌↔◌, List, length, Some, None, Option, sym, refl, ap, ◌∙◌, subst, inl, inr, ⊎_elim, arith}
+use Rattle.std.proofs.Common.{◌≡◌, ℕ, ◌+◌, ◌<◌, ◌↔◌, List, length, Some, None, Option, sym, refl, ap, ◌∙◌, subst, inl, inr, ⊎_elim, arith}
 use mathlib.Core.Logic.Iff
 use Rattle.names.specs.Names.{Part}
 use Rattle.lists.specs.Trees.{Item, starred, Seq, one, then, Alts, only, or, Tree, empty, list}

@@ -1,5 +1,5 @@
 -- The groups that a group leads to, as a number: it falls along the links.
-use Rattle.std.proofs.Common.{◌≡◌, ℕ, ◌<◌, ◌≤◌, cond, ltb, ◌↔◌, List, get_or, sym, subst, ⊎_elim, arith, le-ltb, lt-ltb}
+use Rattle.std.proofs.Common.{ℕ, ◌<◌, cond, ltb, ◌↔◌, List, get_or, sym, subst, ⊎_elim, arith, le-ltb, lt-ltb}
 use Rattle.std.proofs.lemmas.Bool.{cond-true, cond-false, cases_lt}
 use Rattle.positions.specs.Places.{Has}
 use Rattle.positions.proofs.Digits.{has_empty}

@@ -1,22 +1,19 @@
 -- A text can be judged once every group is judged that its references name.
-use Rattle.std.proofs.Common.{◌≡◌, ℕ, ◌+◌, ◌<◌, ◌≤◌, ◌≢◌, List, [], length, get_or, Some, sym, refl, ap, ◌∙◌, subst, ⊎_elim, arith}
+use Rattle.std.proofs.Common.{◌≡◌, ℕ, ◌<◌, List, [], length, get_or, Some, sym, ap, ◌∙◌, subst, arith}
 use Rattle.links.specs.declared.links.Links.{Links}
 use Rattle.links.specs.Links.{Linked}
-use Rattle.positions.specs.Places.{Has}
-use Rattle.runs.specs.declared.relation.Runs.{Runs}
-use Rattle.names.specs.Names.{Part, IsName}
+use Rattle.names.specs.Names.{Part}
 use Rattle.lists.specs.Trees.{Tree}
 use Rattle.lists.specs.Texts.{Reads}
 use Rattle.lists.proofs.UniqueSpelling.{unique_tree}
 use Rattle.books.specs.Tables.{Table, text_of}
-use Rattle.openings.specs.Opening.{Name, Numbered, Known}
+use Rattle.openings.specs.Opening.{Name, Numbered}
 use Rattle.openings.specs.Opened.{names_of, texts_of}
 use Rattle.openings.specs.Holding.{known}
 use Rattle.openings.proofs.TableTexts.{length_names}
-use Rattle.derivations.specs.Derives.{GroupOf}
 use Rattle.matching.specs.declared.held.Judge.{Judge}
-use Rattle.matching.specs.Judging.{Means, Derived, GroupReady, TreeReady}
-use Rattle.matching.specs.Ordering.{Held, AllHeld}
+use Rattle.matching.specs.Judging.{GroupReady, TreeReady}
+use Rattle.matching.specs.Ordering.{Held}
 use Rattle.matching.proofs.Grounds.{Grounds}
 use Rattle.matching.proofs.Mentions.{every_group}
 

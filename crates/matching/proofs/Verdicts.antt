@@ -2,13 +2,12 @@
 use Rattle.std.proofs.Common.{◌≡◌, ℕ, ◌<◌, Bool, true, ◌↔◌, List, length, Decides, sym, ◌∙◌, subst, arith}
 use Rattle.runs.specs.declared.relation.Runs.{Runs}
 use Rattle.runs.specs.Runs.{Ends}
-use Rattle.names.specs.Names.{Part, IsName, LawfulName, PartsOf}
+use Rattle.names.specs.Names.{Part, IsName}
 use Rattle.names.proofs.OneFault.{unique_parts}
 use Rattle.lists.specs.Trees.{Tree}
 use Rattle.lists.specs.Texts.{Reads}
 use Rattle.lists.proofs.UniqueSpelling.{unique_tree}
 use Rattle.lists.proofs.Deciding.{lawful_list}
-use Rattle.name_parts.specs.Slices.{Spans}
 use Rattle.openings.specs.declared.opened.Opened.{Opened}
 use Rattle.openings.specs.Opened.{names_of}
 use Rattle.openings.specs.Holding.{known}

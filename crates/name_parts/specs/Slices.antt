@@ -1,5 +1,5 @@
 -- Runs of the parts of a name: from one place up to another.
-use Rattle.std.specs.Prelude.{◌≡◌, ℕ, ◌-◌, ◌<◌, ◌≤◌, List, length, slice_index_or, slice_range}
+use Rattle.std.specs.Prelude.{◌≡◌, ℕ, ◌<◌, ◌≤◌, List, length, slice_index_or, slice_range}
 use Rattle.names.specs.Names.{Part}
 
 -- the parts from place i up to place j

@@ -1,11 +1,10 @@
 -- Words joined by single bytes of some kind, and the machine that reads them.
-use Rattle.std.proofs.Common.{◌≡◌, ℕ, ◌+◌, ◌<◌, ◌≤◌, Bool, true, false, cond, not, eqb, ltb, List, [], ◌∷◌, ◌++◌, length, get_or, take, Some, None, Option, sym, refl, ap, ◌∙◌, subst, ⊎_elim, append_assoc, append-nil, arith, length-append, ltb-true, le-ltb, lt-ltb, ne_eqb}
+use Rattle.std.proofs.Common.{◌≡◌, ℕ, ◌+◌, ◌<◌, ◌≤◌, Bool, true, false, cond, not, eqb, ltb, List, [], ◌∷◌, ◌++◌, length, Some, None, Option, sym, refl, ap, ◌∙◌, subst, ⊎_elim, append_assoc, append-nil, arith, ltb-true, le-ltb, lt-ltb, ne_eqb}
 use Rattle.std.proofs.slice.Lists.{all_by_recursion_push}
 use Rattle.std.proofs.lemmas.List.{length_push}
 use Rattle.std.proofs.lemmas.Bool.{cond-true, cond-false, cond_both, cases_lt}
-use Rattle.std.specs.List.{AllByRecursion}
-use Rattle.names.specs.Language.{Begins, Stuck}
-use Rattle.names.specs.Words.{word_byte, WordBytes, Word, Joined, lone, linked}
+use Rattle.names.specs.Language.{Begins}
+use Rattle.names.specs.Words.{word_byte, WordBytes, Joined, lone, linked}
 use Rattle.names.specs.Faults.{due_after, word_due}
 use Rattle.names.specs.Machine.{next, run}
 use Rattle.names.proofs.Machine.{run_append, never}

@@ -1,11 +1,11 @@
 -- What the checks of names and partial names answer.
-use Rattle.std.proofs.Common.{◌≡◌, ℕ, ◌+◌, ◌*◌, ◌<◌, ◌≤◌, List, length, take, sym, refl, ap, ◌∙◌, subst, arith}
+use Rattle.std.proofs.Common.{◌≡◌, ℕ, ◌+◌, ◌*◌, ◌<◌, ◌≤◌, List, length, sym, ap, subst, arith}
 use Rattle.faults.specs.declared.fault.Fault.{Fault}
 use Rattle.faults.specs.declared.kind.Kind.TheVariants.{NameTooLong}
-use Rattle.names.specs.Language.{Begins, Stuck}
+use Rattle.names.specs.Language.{Stuck}
 use Rattle.names.specs.Words.{Joined, count_of}
-use Rattle.names.specs.Names.{Part, spell, Partial, Steps, Spelled, IsName, LawfulName, LawfulPartial}
-use Rattle.names.specs.Faults.{fault, mark_byte, kind_at, NameFault, PartialFault, stuck, parts, stuck_partial}
+use Rattle.names.specs.Names.{Part, Partial, Steps, Spelled, IsName, LawfulName}
+use Rattle.names.specs.Faults.{fault, mark_byte, NameFault, PartialFault, stuck, parts, stuck_partial}
 use Rattle.names.specs.Joints.{Unjoined, JointAt}
 use Rattle.names.proofs.Forms.{dot_byte, joined_name, name_joined, joined_partial, spelled_partial}
 use Rattle.names.proofs.Places.{alternates, count_parts, place_of}

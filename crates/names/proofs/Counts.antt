@@ -1,7 +1,7 @@
 -- How many bytes are of some kind, and where the joints of a name are.
-use Rattle.std.proofs.Common.{◌≡◌, ℕ, suc, ◌+◌, ◌-◌, ◌*◌, ◌<◌, ◌≤◌, Bool, true, false, cond, List, [], ◌∷◌, ◌++◌, length, get_or, take, sym, refl, ap, ◌∙◌, subst, ⊎_elim, append_assoc, append-nil, arith, length-append}
+use Rattle.std.proofs.Common.{◌≡◌, ℕ, ◌+◌, ◌<◌, Bool, true, false, cond, List, [], ◌∷◌, ◌++◌, length, get_or, take, ap, ◌∙◌, arith}
 use Rattle.std.proofs.lemmas.List.{take_more}
-use Rattle.names.specs.Words.{word_byte, WordBytes, Word, count_of}
+use Rattle.names.specs.Words.{count_of}
 
 pub count_append : (p : ℕ → Bool) (s t : List ℕ) → count_of p (s ++ t) ≡ count_of p s + count_of p t
 count_append p [] t = omega arith

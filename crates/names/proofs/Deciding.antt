@@ -1,10 +1,10 @@
 -- Whether a text is a lawful name is decided by reading it, so the mere statement that it is one gives its parts.
-use Rattle.std.proofs.Common.{◌≡◌, ℕ, zero, suc, ◌<◌, ◌≤◌, ◌⊎◌, List, length, Some, None, Option, sym, refl, ◌∙◌, inl, inr, ⊎_elim, arith}
+use Rattle.std.proofs.Common.{◌≡◌, ℕ, zero, suc, ◌⊎◌, List, length, Some, None, Option, refl, inl, inr, ⊎_elim, arith}
 use mathlib.Core.HLevel.{⊥_prop}
 use mathlib.Core.Logic.{∥∥₁_elim}
 use Rattle.std.proofs.lemmas.Bool.{cases_lt}
 use Rattle.names.specs.Words.{Joined, count_of}
-use Rattle.names.specs.Names.{Steps, Spelled, IsName, LawfulName}
+use Rattle.names.specs.Names.{LawfulName}
 use Rattle.names.specs.Faults.{mark_byte}
 use Rattle.names.proofs.Chains.{reads, chain_reads, chain_of}
 use Rattle.names.proofs.Checks.{name_lawful, parts_counted}

@@ -1,5 +1,5 @@
 -- Names and partial names are words joined by marks.
-use Rattle.std.proofs.Common.{◌≡◌, ℕ, ◌+◌, ◌<◌, ◌≤◌, Bool, true, false, ◌||◌, eqb, ◌⊎◌, List, [], ◌∷◌, ◌++◌, sym, refl, ap, ◌∙◌, subst, inl, inr, ⊎_elim, append_assoc, append-nil, arith, eqb-true}
+use Rattle.std.proofs.Common.{◌≡◌, ℕ, Bool, true, false, eqb, ◌⊎◌, List, [], ◌∷◌, ◌++◌, sym, refl, ap, ◌∙◌, subst, inl, inr, ⊎_elim, append_assoc, append-nil, eqb-true}
 use Rattle.std.proofs.lemmas.Bool.{or_cases}
 use Rattle.names.specs.Words.{word_byte, Word, Joined, lone, linked}
 use Rattle.names.specs.Names.{Part, word, dot, at, plus, bytes_of, spell, Partial, single, dotted, Step, program, role, Steps, only, joined, Spelled}

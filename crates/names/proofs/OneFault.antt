@@ -1,15 +1,15 @@
 -- A text has one fault at most as a name, a partial name or a path, and none if it is lawful; a name has one row of
 -- parts.
-use Rattle.std.proofs.Common.{◌≡◌, ℕ, ◌+◌, ◌<◌, ◌≤◌, true, false, List, [], ◌∷◌, ◌++◌, length, get_or, take, drop, sym, refl, ap, ◌∙◌, subst, ⊎_elim, append-nil, arith}
+use Rattle.std.proofs.Common.{◌≡◌, ℕ, false, List, [], ◌∷◌, ◌++◌, length, get_or, take, drop, sym, refl, ap, ◌∙◌, subst, ⊎_elim, append-nil, arith}
 use borrow.Author.Tests.{clash}
 use Rattle.std.proofs.lemmas.Bool.{cases_lt}
 use Rattle.faults.specs.declared.fault.Fault.{Fault}
 use Rattle.faults.specs.declared.kind.Kind.TheVariants.{NameTooLong, PathUnlawful}
 use Rattle.names.specs.Language.{Stuck}
-use Rattle.names.specs.Words.{word_byte, WordBytes, Word}
-use Rattle.names.specs.Names.{Part, word, dot, at, plus, bytes_of, spell, Partial, Steps, Spelled, LawfulName, LawfulPartial}
+use Rattle.names.specs.Words.{word_byte, WordBytes}
+use Rattle.names.specs.Names.{Part, word, spell, Partial, Steps, Spelled, LawfulName, LawfulPartial}
 use Rattle.names.specs.Paths.{IsPath, LawfulPath}
-use Rattle.names.specs.Faults.{fault, kind_at, mark_byte, NameFault, long, stuck, parts, PartialFault, long_partial, stuck_partial, PathFault, long_path, stuck_path}
+use Rattle.names.specs.Faults.{fault, kind_at, NameFault, long, stuck, parts, PartialFault, long_partial, stuck_partial, PathFault, long_path, stuck_path}
 use Rattle.names.proofs.Forms.{mark_apart}
 use Rattle.names.proofs.Places.{Mark, mark_of, mark_of_lem, Alternates, last, next, alternates}
 use Rattle.faults.specs.Answers.{Accepted, Refused}

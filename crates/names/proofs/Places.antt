@@ -1,9 +1,9 @@
 -- The parts of a name: words and marks in turn. How many there are, and where each begins.
-use Rattle.std.proofs.Common.{◌≡◌, ℕ, zero, suc, ◌+◌, ◌-◌, ◌*◌, ◌<◌, ◌≤◌, Bool, true, false, cond, eqb, ◌⊎◌, List, [], ◌∷◌, ◌++◌, length, get_or, take, sym, refl, ap, ◌∙◌, subst, inl, inr, ⊎_elim, append_assoc, append-nil, arith, length-append}
+use Rattle.std.proofs.Common.{◌≡◌, ℕ, zero, suc, ◌+◌, ◌-◌, ◌*◌, ◌<◌, Bool, true, false, cond, eqb, List, [], ◌∷◌, ◌++◌, length, get_or, take, sym, refl, ap, ◌∙◌, ⊎_elim, append-nil, arith, length-append}
 use borrow.Author.Tests.{clash}
-use Rattle.std.proofs.lemmas.List.{take_at, take-append-le, get_or_at, get_or_append_left, get_or-append-add}
+use Rattle.std.proofs.lemmas.List.{take_at, get_or_append_left, get_or-append-add}
 use Rattle.std.proofs.lemmas.Bool.{cases_order}
-use Rattle.names.specs.Words.{word_byte, WordBytes, Word, count_of}
+use Rattle.names.specs.Words.{WordBytes, Word, count_of}
 use Rattle.names.specs.Names.{Part, word, dot, at, plus, bytes_of, spell, Partial, single, dotted, Step, program, role, Steps, only, joined}
 use Rattle.names.specs.Faults.{mark_byte}
 use Rattle.names.specs.Joints.{JointAt}

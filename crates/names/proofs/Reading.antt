@@ -1,19 +1,17 @@
 -- What the machine tells of a text: joined words, or the first byte that cannot go on.
-use Rattle.std.proofs.Common.{◌≡◌, ℕ, ◌+◌, ◌<◌, ◌≤◌, Bool, true, false, cond, ◌&&◌, eqb, List, [], ◌∷◌, length, get_or, take, drop, Some, None, Option, sym, refl, ap, ◌∙◌, subst, ⊎_elim, arith}
-use Rattle.std.proofs.lemmas.List.{drop_more, drop_all, take_all}
+use Rattle.std.proofs.Common.{◌≡◌, ℕ, ◌+◌, ◌<◌, ◌≤◌, Bool, true, false, cond, ◌&&◌, eqb, List, length, get_or, take, Some, None, Option, sym, ap, ◌∙◌, ⊎_elim, arith}
+use Rattle.std.proofs.lemmas.List.{drop_more, drop_all}
 use Rattle.std.proofs.lemmas.Bool.{cases_Bool, cases_lt}
 use Rattle.faults.specs.declared.fault.Fault.{Fault}
-use Rattle.faults.specs.declared.kind.Kind.{Kind}
 use Rattle.faults.specs.declared.kind.Kind.TheVariants.{ByteNotAllowed, WordMissing, WordTooLong}
 use Rattle.names.specs.declared.joint.Joints.{Joints}
 use Rattle.names.specs.declared.joint.Joints.TheVariants.{Marks, Dots, Slashes}
-use Rattle.names.specs.Language.{Stuck}
 use Rattle.names.specs.Words.{word_byte, Joined}
-use Rattle.names.specs.Faults.{fault, mark_byte, kind_of, kind_at, word_due}
+use Rattle.names.specs.Faults.{fault, mark_byte, kind_of, kind_at}
 use Rattle.names.specs.Joints.{joins, Unjoined}
 use Rattle.names.specs.Machine.{next}
 use Rattle.names.proofs.Machine.{run_more, blocked, ended}
-use Rattle.names.proofs.Chains.{step, reads, accepts, begins, chain_reads, due, step_word, step_join, step_full, step_due, step_other}
+use Rattle.names.proofs.Chains.{step, reads, accepts, begins, chain_reads, due, step_full, step_due, step_other}
 use Rattle.names.proofs.Forms.{mark_apart, dot_apart, slash_apart}
 
 pub apart : (j : Joints) (b : ℕ) → joins j b ≡ true → word_byte b ≡ false

@@ -1,5 +1,5 @@
 -- What stands at a place of a name where a part begins.
-use Rattle.std.proofs.Common.{◌≡◌, ℕ, ◌+◌, ◌-◌, ◌<◌, ◌≤◌, true, false, cond, eqb, List, [], ◌∷◌, ◌++◌, length, get_or, take, drop, Some, None, Option, sym, refl, ap, ◌∙◌, subst, ⊎_elim, append_assoc, append-nil, arith, length-append, ne_eqb}
+use Rattle.std.proofs.Common.{◌≡◌, ℕ, ◌+◌, ◌-◌, ◌<◌, ◌≤◌, true, false, List, [], ◌∷◌, ◌++◌, length, get_or, take, drop, Some, None, Option, sym, refl, ap, ◌∙◌, subst, ⊎_elim, append_assoc, append-nil, arith, length-append, ne_eqb}
 use borrow.Author.Tests.{clash}
 use Rattle.std.proofs.ByRecursion.{All-get_or}
 use Rattle.std.proofs.lemmas.List.{take_at, drop_at, get_or_append_left, get_or-append-add}
@@ -7,7 +7,7 @@ use Rattle.std.proofs.lemmas.Bool.{cond-false, cases_order}
 use Rattle.std.specs.List.{between}
 use Rattle.names.specs.declared.part.Part.{Part as WalkedPart}
 use Rattle.names.specs.Words.{word_byte, WordBytes, Word}
-use Rattle.names.specs.Names.{Part, word, dot, at, plus, bytes_of, spell, Steps}
+use Rattle.names.specs.Names.{Part, word, plus, bytes_of, spell, Steps}
 use Rattle.names.specs.Parts.{AtPart, part_of, WordEnd, Walks}
 use Rattle.names.proofs.Forms.{mark_apart, spell_append}
 use Rattle.names.proofs.Places.{Mark, Alternates, last, next, alternates, mark_of, mark_of_lem}

@@ -4,12 +4,12 @@ use borrow.Author.Tests.{clash}
 use Rattle.std.proofs.lemmas.Bool.{cases_lt}
 use Rattle.faults.specs.declared.fault.Fault.{Fault}
 use Rattle.links.specs.declared.links.Links.{Links}
-use Rattle.links.specs.Links.{Linked, Added}
+use Rattle.links.specs.Links.{Added}
 use Rattle.lists.specs.Texts.{LawfulList}
 use Rattle.lists.specs.Faults.{ListFault}
 use Rattle.lists.proofs.Placing.{lawful_placed}
 use Rattle.openings.specs.References.{Reference, references_of, Refers, RefersAt}
-use Rattle.openings.specs.Opening.{Name, Meaning, Numbered, Known, Meets, again, new, MeetsAll, met, meet, Halts, ReadTo, start, turn, the_list, the_group}
+use Rattle.openings.specs.Opening.{Name, Meaning, Known, Meets, again, new, MeetsAll, met, meet, Halts, ReadTo, start, turn, the_list, the_group}
 use Rattle.openings.specs.Opened.{in_text, OpenFault, unlawful, halts}
 use Rattle.openings.specs.Circles.{Names}
 use Rattle.openings.specs.Meeting.{Named, AllMet, HaltsIn}

@@ -1,5 +1,5 @@
 -- A text that a book copies to a buffer.
-use Rattle.std.proofs.Common.{◌≡◌, ℕ, ◌-◌, ◌<◌, Bool, true, false, leb, List, ◌++◌, length, take, drop, Some, Ok, Err, Option, Result, sym, refl, ap, ◌∙◌, subst, ⊎_elim, arith, leb-false}
+use Rattle.std.proofs.Common.{◌≡◌, ℕ, ◌-◌, ◌<◌, true, false, leb, List, ◌++◌, length, take, drop, Some, Ok, Err, Option, Result, ap, ◌∙◌, ⊎_elim, arith, leb-false}
 use Rattle.std.proofs.lemmas.List.{take_at}
 use Rattle.std.proofs.lemmas.Bool.{cond-true, cond-false, cases_Bool}
 use Rattle.books.specs.declared.not_copied.NotCopied.{NotCopied}

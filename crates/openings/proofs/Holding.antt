@@ -1,5 +1,5 @@
 -- The names that an opening holds, as a list.
-use Rattle.std.proofs.Common.{◌≡◌, ℕ, ◌+◌, ◌-◌, ◌<◌, ◌≤◌, Bool, true, false, List, [], ◌∷◌, ◌++◌, map, length, get_or, take, set, is_some, Some, None, Option, sym, refl, ap, ◌∙◌, subst, add-one, arith, length-take, get_or-take, take-suc-set}
+use Rattle.std.proofs.Common.{◌≡◌, ℕ, ◌+◌, ◌-◌, ◌<◌, true, false, List, [], ◌∷◌, ◌++◌, length, get_or, take, set, is_some, Some, None, Option, sym, refl, ap, ◌∙◌, add-one, arith, length-take, get_or-take, take-suc-set}
 use mathlib.Core.List.{map-append}
 use borrow.Author.Tests.{clash}
 use lib.ListN.{length-map}

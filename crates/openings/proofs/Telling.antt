@@ -1,10 +1,10 @@
 -- Closed links tell which group leads to which.
-use Rattle.std.proofs.Common.{◌≡◌, ℕ, ◌+◌, ◌<◌, ◌↔◌, List, [], length, get_or, sym, refl, ap, ◌∙◌, subst, ⊎_elim, arith}
+use Rattle.std.proofs.Common.{◌≡◌, ℕ, ◌+◌, ◌<◌, List, [], length, get_or, sym, refl, ap, ◌∙◌, subst, ⊎_elim, arith}
 use Rattle.links.specs.declared.links.Links.{Links}
 use Rattle.links.specs.Links.{Linked, Chain, one, more}
 use Rattle.books.specs.Tables.{Table, text_of}
-use Rattle.openings.specs.Opening.{Name, Meaning, Numbered, Known, ReadTo}
-use Rattle.openings.specs.Circles.{Names, Leads, here, on, LeadsOn}
+use Rattle.openings.specs.Opening.{Name, Meaning, Known, ReadTo}
+use Rattle.openings.specs.Circles.{Leads, here, on, LeadsOn}
 use Rattle.openings.specs.Opened.{names_of, Opens}
 use Rattle.openings.specs.Gathering.{Gathering}
 use Rattle.openings.specs.Backing.{Closes}

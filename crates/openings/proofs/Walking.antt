@@ -1,5 +1,5 @@
 -- Meeting the references of a text while its tokens are walked.
-use Rattle.std.proofs.Common.{◌≡◌, ℕ, ◌<◌, ◌⊎◌, ◌↔◌, List, [], ◌∷◌, ◌++◌, Some, None, Option, sym, refl, ap, ◌∙◌, subst, inl, inr, ⊎_elim, append_assoc, append-nil, Bor, MatchOption}
+use Rattle.std.proofs.Common.{◌≡◌, ℕ, ◌<◌, ◌⊎◌, ◌↔◌, List, [], ◌∷◌, ◌++◌, Option, sym, refl, ap, ◌∙◌, subst, inl, inr, ⊎_elim, append_assoc, append-nil, Bor, MatchOption}
 use Rattle.positions.specs.Places.{Has}
 use Rattle.lists.specs.Trees.{Sign, group}
 use Rattle.lists.specs.declared.token.Token.{Token}

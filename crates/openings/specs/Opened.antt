@@ -6,7 +6,7 @@ use Rattle.faults.specs.declared.kind.Kind.{Kind}
 use Rattle.faults.specs.declared.kind.Kind.TheVariants.{GroupLeadsToItself}
 use Rattle.lists.specs.Texts.{LawfulList}
 use Rattle.lists.specs.Faults.{ListFault}
-use Rattle.books.specs.Tables.{Entry, Table}
+use Rattle.books.specs.Tables.{Table}
 use Rattle.openings.specs.References.{Reference, Refers}
 use Rattle.openings.specs.Opening.{Name, Meaning, TextAt, ReadTo, Halts}
 use Rattle.openings.specs.Circles.{OnCircle, FirstOnCircle}

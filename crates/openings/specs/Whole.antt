@@ -3,7 +3,6 @@ use Rattle.std.specs.Prelude.{ℕ, ◌<◌, ◌↔◌, List, [], length, slice_i
 use Rattle.links.specs.declared.links.Links.{Links}
 use Rattle.links.specs.Links.{Linked}
 use Rattle.books.specs.Tables.{Table, text_of}
-use Rattle.openings.specs.Opening.{Name}
 use Rattle.openings.specs.Circles.{LeadsOn}
 use Rattle.openings.specs.Opened.{names_of, Opens}
 

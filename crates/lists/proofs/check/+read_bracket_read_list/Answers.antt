@@ -1,9 +1,9 @@
-use Rattle.std.proofs.Common.{◌≡◌, ℕ, ◌+◌, ◌<◌, ◌≤◌, Bool, true, false, List, length, Some, None, Option, sym, refl, ap, ◌∙◌, subst, ⊎_elim, arith, rules}
+use Rattle.std.proofs.Common.{◌≡◌, ℕ, ◌+◌, ◌<◌, Bool, true, false, List, length, Some, Option, sym, refl, subst, arith, rules}
 use Rattle.std.proofs.lemmas.Result.{err_from_is_err_and}
 use Rattle.lists.specs.declared.token.Token.{Token}
 use Rattle.lists.specs.declared.token.Token.TheVariants.{Open, Close, Star, Bar}
 use Rattle.lists.specs.declared.token.Lexeme.{Lexeme}
-use Rattle.lists.specs.Trees.{open_bracket, close_bracket, star, bar}
+use Rattle.lists.specs.Trees.{open_bracket, star, bar}
 use Rattle.lists.specs.Lexemes.{sign, Next, TokenAt}
 use Rattle.lists.specs.Faults.{Slip}
 use Rattle.lists.specs.Machine.{within, Leads, Enters, ListRead}

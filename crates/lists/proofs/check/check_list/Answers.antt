@@ -1,4 +1,4 @@
-use Rattle.std.proofs.Common.{◌≡◌, ◌<◌, true, length, sym, arith}
+use Rattle.std.proofs.Common.{◌<◌, true, length, arith}
 use Rattle.lists.specs.Machine.{within}
 use Rattle.lists.proofs.Course.{leads_none}
 use Rattle.lists.proofs.Whole.{marked_by, blank_list, read_list}

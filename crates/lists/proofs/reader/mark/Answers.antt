@@ -1,5 +1,4 @@
-use Rattle.std.proofs.Common.{arith, rules}
-use Rattle.std.proofs.lemmas.Bool.Decides.{nat_tests}
+use Rattle.std.proofs.Common.{rules}
 use Rattle.lists.specs.Bytes.{sign_of}
 use Rattle.lists.proofs.reader.mark.Goals as goal
 

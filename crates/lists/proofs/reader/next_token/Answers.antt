@@ -1,4 +1,4 @@
-use Rattle.std.proofs.Common.{◌≡◌, ◌<◌, length, sym, subst, arith, ne_eqb}
+use Rattle.std.proofs.Common.{◌<◌, length, sym, subst, arith, ne_eqb}
 use Rattle.lists.specs.Lexemes.{Gap, TokenFault, bad_byte, sign}
 use Rattle.lists.proofs.Lexing.{mark_token}
 use Rattle.lists.proofs.Segments.{past_at}

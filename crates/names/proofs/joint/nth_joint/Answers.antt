@@ -1,4 +1,4 @@
-use Rattle.std.proofs.Common.{sym, ap, ◌∙◌, arith}
+use Rattle.std.proofs.Common.{sym, ap, arith}
 use Rattle.std.proofs.lemmas.List.{take_all}
 use Rattle.names.specs.Words.{count_of}
 use Rattle.names.specs.Joints.{joins}

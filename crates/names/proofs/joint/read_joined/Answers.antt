@@ -1,11 +1,11 @@
-use Rattle.std.proofs.Common.{◌≡◌, ℕ, ◌+◌, ◌<◌, ◌≤◌, true, false, cond, length, get_or, take, Some, None, sym, ap, ◌∙◌, subst, ⊎_elim, arith}
+use Rattle.std.proofs.Common.{◌≡◌, ℕ, ◌+◌, ◌<◌, ◌≤◌, true, false, cond, get_or, take, Some, sym, ap, ◌∙◌, ⊎_elim, arith}
 use borrow.Author.Tests.{clash}
 use Rattle.std.proofs.lemmas.List.{take_all}
 use Rattle.std.proofs.lemmas.Bool.{cases_Bool}
-use Rattle.names.specs.Words.{word_byte, Joined, count_of}
+use Rattle.names.specs.Words.{word_byte, count_of}
 use Rattle.names.specs.Faults.{fault}
 use Rattle.names.specs.Joints.{joins}
-use Rattle.names.proofs.Chains.{reads, step, step_word, step_join, chain_of}
+use Rattle.names.proofs.Chains.{reads, step_word, step_join, chain_of}
 use Rattle.names.proofs.Counts.{count_more}
 use Rattle.names.proofs.Reading.{apart, stops, goes_on, slip_here, slip_end}
 use Rattle.names.proofs.joint.read_joined.Goals as goal

@@ -1,8 +1,8 @@
-use Rattle.std.proofs.Common.{◌≡◌, ◌<◌, true, [], length, get_or, sym, ◌∙◌, arith, below_more}
+use Rattle.std.proofs.Common.{◌≡◌, true, sym, ◌∙◌, arith, below_more}
 use borrow.Author.Tests.{clash}
 use lib.ListN.{length-map}
 use Rattle.std.proofs.lemmas.Slice.Eq.{slice_eq-Decides}
-use Rattle.openings.specs.Holding.{name_of, names_in}
+use Rattle.openings.specs.Holding.{name_of}
 use Rattle.openings.proofs.Holding.{name_at}
 use Rattle.openings.proofs.meet.place_of.Goals as goal
 use Rattle.std.proofs.lemmas.Bool.Decides.{Decides-eqb}

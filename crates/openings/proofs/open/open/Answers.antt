@@ -1,10 +1,9 @@
-use Rattle.std.proofs.Common.{◌≡◌, sym, subst}
+use Rattle.std.proofs.Common.{sym, subst}
 use Rattle.std.proofs.lemmas.Result.{err_from_is_err_and}
 use Rattle.texts.specs.Shown.{shown}
 use Rattle.lists.specs.Texts.{LawfulList}
 use Rattle.books.specs.Tables.{text_of}
 use Rattle.openings.specs.Opened.{Opens, OpenFault}
-use Rattle.openings.specs.Gathering.{AllGathered}
 use Rattle.openings.proofs.Turns.{read_distinct}
 use Rattle.openings.proofs.Answering.{opens_own}
 use Rattle.openings.proofs.Concluding.{list_told, refused, refused_alike, opened_as, opened_alike, table_in, table_opens, table_tells}

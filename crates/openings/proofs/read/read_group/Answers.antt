@@ -1,5 +1,4 @@
-use Rattle.std.proofs.Common.{◌≡◌, ◌<◌, length, replicate, sym, refl, ap, ◌∙◌, subst, arith}
-use lib.ListN.{length-replicate}
+use Rattle.std.proofs.Common.{refl, ap, ◌∙◌, subst}
 use Rattle.lists.specs.Texts.{LawfulList}
 use Rattle.lists.specs.Faults.{ListFault, long}
 use Rattle.books.specs.Tables.{text_of}

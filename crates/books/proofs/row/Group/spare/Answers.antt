@@ -1,4 +1,4 @@
-use Rattle.std.proofs.Common.{◌≡◌, [], ◌∷◌, refl, arith}
+use Rattle.std.proofs.Common.{[], ◌∷◌, refl, arith}
 use Rattle.names.specs.Words.{word_byte}
 use Rattle.lists.specs.Bytes.{group_byte, IsGroupName}
 use Rattle.books.proofs.row.Group.spare.Goals as goal

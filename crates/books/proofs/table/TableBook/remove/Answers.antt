@@ -1,4 +1,4 @@
-use Rattle.std.proofs.Common.{◌≡◌, sym, refl, ap, ◌∙◌, subst}
+use Rattle.std.proofs.Common.{sym, refl}
 use Rattle.texts.specs.Shown.{shown}
 use Rattle.registers.specs.Registers.{rows_in_use}
 use Rattle.books.proofs.Lookups.{text_long}

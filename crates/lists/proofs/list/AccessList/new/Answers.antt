@@ -1,7 +1,7 @@
-use Rattle.std.proofs.Common.{◌≡◌, ℕ, List, sym, subst}
+use Rattle.std.proofs.Common.{ℕ, List, sym, subst}
 use Rattle.std.proofs.lemmas.Result.{err_from_is_err_and}
 use Rattle.faults.specs.declared.fault.Fault.{Fault}
-use Rattle.faults.specs.Answers.{Accepted, Refused}
+use Rattle.faults.specs.Answers.{Refused}
 use Rattle.names.proofs.Leaving.{accepted, refused}
 use Rattle.lists.specs.Texts.{LawfulList}
 use Rattle.lists.specs.Faults.{ListFault, long, slip}

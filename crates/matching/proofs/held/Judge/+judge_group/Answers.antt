@@ -1,4 +1,4 @@
-use Rattle.std.proofs.Common.{◌≡◌, ◌<◌, length, sym, refl, ◌∙◌, subst, inr, arith}
+use Rattle.std.proofs.Common.{◌<◌, length, sym, refl, ◌∙◌, subst, inr, arith}
 use mir.Facts.{Fits-below}
 use Rattle.lists.specs.Texts.{Reads}
 use Rattle.openings.specs.Answers.{groups_of}

@@ -1,5 +1,5 @@
 use Rattle.std.proofs.Common.{◌≡◌, sym, refl, subst}
-use Rattle.names.specs.Names.{word, dot, at, plus}
+use Rattle.names.specs.Names.{dot, at, plus}
 use Rattle.lists.specs.Trees
 use Rattle.lists.specs.Trees.{Atom, atom}
 use Rattle.lists.specs.declared.token.Token.{Token}

@@ -1,4 +1,4 @@
-use Rattle.std.proofs.Common.{sym, ◌∙◌, subst, arith}
+use Rattle.std.proofs.Common.{◌∙◌, arith}
 use Rattle.matching.proofs.Levels.{reach_map}
 use Rattle.matching.proofs.step.Step.starred.Goals as goal
 

@@ -1,4 +1,4 @@
-use Rattle.std.proofs.Common.{◌≡◌, sym, ◌∙◌, subst, inr, ⊎_elim}
+use Rattle.std.proofs.Common.{sym, ◌∙◌, subst, inr, ⊎_elim}
 use Rattle.links.specs.Links.{Linked}
 use Rattle.openings.proofs.gathered.Gathered.leads_back.Goals as goal
 

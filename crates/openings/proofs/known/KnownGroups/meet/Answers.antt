@@ -1,6 +1,6 @@
-use Rattle.std.proofs.Common.{◌≡◌, ◌<◌, [], ◌∷◌, ◌++◌, length, sym, ap, ◌∙◌, subst, arith}
+use Rattle.std.proofs.Common.{◌<◌, [], ◌∷◌, ◌++◌, sym, ap, ◌∙◌, subst, arith}
 use Rattle.books.specs.Tables.{text_of}
-use Rattle.openings.specs.Opening.{Numbered, Known, Meets, again, new, surplus, lacking}
+use Rattle.openings.specs.Opening.{Numbered, Meets, again, new, surplus, lacking}
 use Rattle.openings.specs.Holding.{known}
 use Rattle.openings.proofs.Holding.{known_count, names_more, last_numbered, no_length, some_length}
 use Rattle.openings.proofs.known.KnownGroups.meet.Goals as goal

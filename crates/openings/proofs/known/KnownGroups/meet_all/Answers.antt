@@ -1,4 +1,4 @@
-use Rattle.std.proofs.Common.{◌≡◌, ◌<◌, List, ◌∷◌, sym, refl, ap, ◌∙◌, subst, arith}
+use Rattle.std.proofs.Common.{◌<◌, List, ◌∷◌, sym, refl, ap, ◌∙◌, subst, arith}
 use Rattle.texts.specs.Shown.{shown}
 use Rattle.lists.specs.Lexemes.{sign}
 use Rattle.books.specs.Tables.{text_of}

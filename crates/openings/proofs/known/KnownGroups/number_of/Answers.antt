@@ -1,4 +1,4 @@
-use Rattle.std.proofs.Common.{◌≡◌, sym, ap, subst, MatchOption}
+use Rattle.std.proofs.Common.{subst, MatchOption}
 use Rattle.openings.specs.Opening.{Known, Numbered}
 use Rattle.openings.proofs.Holding.{front}
 use Rattle.openings.proofs.known.KnownGroups.number_of.Goals as goal
