@@ -6,7 +6,7 @@ import time
 
 import lists
 
-REHEARSE = "target/bin/rehearse"
+REHEARSE = "crates/rehearse/out/rehearse"
 
 
 def seconds(script):
