@@ -1,9 +1,12 @@
 //! A fault: its kind, the text that it was found in, and the place there.
-ghost use Rattle.std.specs.Prelude.{◌≡◌};
+ghost use Rattle.std.specs.Prelude.{◌≡◌, Some};
+ghost use Rattle.faults.specs.Printed.{fault_text};
 
 use super::kind::Kind;
+use std::error::Error;
+use std::fmt;
 
-#[derive(Clone, Copy)]
+#[derive(Clone, Copy, Debug, PartialEq, Eq)]
 pub struct Fault {
     pub kind: Kind,
     /// Which text of the call: 0, but for an opened group, a role or a second list.
@@ -30,3 +33,15 @@ impl Fault {
         Fault { text, ..self }
     }
 }
+
+impl fmt::Display for Fault {
+    ghost output = { λ f. Some (fault_text f) };
+
+    fn fmt<W: fmt::Write>(&self, f: &mut fmt::Formatter<W>) -> fmt::Result {
+        let (number, layer) = (self.kind.number(), self.kind.layer());
+        let (text, place) = (self.text, self.place);
+        write!(f, "{number} {layer} {text} {place}")
+    }
+}
+
+impl Error for Fault {}

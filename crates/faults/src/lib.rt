@@ -4,3 +4,4 @@
 
 pub mod fault;
 pub mod kind;
+pub mod lawful;
