@@ -30,6 +30,7 @@ pub enum Kind {
 }
 
 impl Kind {
+    // A kind has two numbers, so `From<Kind> for u8` would not say which one it gives.
     /// The number that the table of faults gives to the kind.
     pub fn number(self) -> u8
         ensures { result ≡ number_of self }
