@@ -1,10 +1,11 @@
 -- What stands at a place of a name where a part begins.
-use Rattle.std.proofs.Common.{◌≡◌, ℕ, ◌+◌, ◌-◌, ◌<◌, ◌≤◌, true, false, List, [], ◌∷◌, ◌++◌, length, get_or, take, drop, Some, None, Option, sym, refl, ap, ◌∙◌, subst, ⊎_elim, append_assoc, append-nil, arith, length-append, ne_eqb}
+use Rattle.std.proofs.Common.{◌≡◌, ℕ, ◌+◌, ◌-◌, ◌<◌, ◌≤◌, true, false, List, [], ◌∷◌, ◌++◌, length, get_or, take, drop, Some, None, Option, sym, refl, ap, ◌∙◌, subst, ⊎_elim, append_assoc, append-nil, arith, length-append, length-drop, ne_eqb}
 use borrow.Author.Tests.{clash}
 use Rattle.std.proofs.ByRecursion.{All-get_or}
-use Rattle.std.proofs.lemmas.List.{take_at, drop_at, get_or_append_left, get_or-append-add}
+use Rattle.std.proofs.lemmas.List.{get_or-drop, length-take-le, take_at, drop_at, get_or_append_left, get_or-append-add}
 use Rattle.std.proofs.lemmas.Bool.{cond-false, cases_order}
-use Rattle.std.specs.List.{between}
+use Rattle.std.proofs.lemmas.List.Sums.{prefix_len-le-length, prefix_len_passes, prefix_len_stops}
+use Rattle.std.specs.List.{between, prefix_len, take_while}
 use Rattle.names.specs.declared.part.Part.{Part as WalkedPart}
 use Rattle.names.specs.Words.{word_byte, WordBytes, Word}
 use Rattle.names.specs.Names.{Part, word, plus, bytes_of, spell, Steps}
@@ -29,6 +30,24 @@ other_mark b no-dot no-at = cond-false _ _ _ (ne_eqb b 46 no-dot) ∙ cond-false
 -- the parts up to one, in bytes
 length_front : (front : List Part) (p : Part) → length (spell (front ++ (p ∷ []))) ≡ length (spell front) + length (bytes_of p)
 length_front front p = ap length (spell_append front (p ∷ [])) ∙ length-append (spell front) (bytes_of p ++ []) ∙ ap (λ u. length (spell front) + length u) (append-nil (bytes_of p))
+
+-- the word bytes from a place on, counted
+pub word_end_is : (text : List ℕ) (from count : ℕ) → from ≤ length text → count ≡ length (take_while word_byte (drop from text)) → WordEnd text from (from + count)
+word_end_is text from count le is = record {
+  forward = omega arith;
+  within = omega (arith, counted, prefix_len-le-length word_byte rest, length-drop from text);
+  bytes = λ k low high. ap word_byte (at k low) ∙ prefix_len_passes word_byte rest (k - from) 0 (omega (arith, counted));
+  past = λ lt. ap word_byte (at (from + count) (omega arith) ∙ ap (λ n. get_or rest n 0) (omega (arith, counted))) ∙ prefix_len_stops word_byte rest 0 (omega (arith, counted, length-drop from text));
+}
+  where
+    rest : List ℕ
+    rest = drop from text
+
+    counted : count ≡ prefix_len word_byte (drop from text)
+    counted = is ∙ length-take-le (prefix_len word_byte (drop from text)) (drop from text) (prefix_len-le-length word_byte (drop from text))
+
+    at : (k : ℕ) → from ≤ k → get_or text k 0 ≡ get_or (drop from text) (k - from) 0
+    at k le = ap (λ n. get_or text n 0) (omega arith) ∙ sym (get_or-drop from text (k - from) 0)
 
 module _ (text : List ℕ) (place : ℕ) where
   -- the bytes before the place, those of the part there, and those behind it

@@ -6,7 +6,7 @@ ghost use Rattle.std.specs.Iterator.{at_most};
 use super::word::is_word_byte;
 
 /// A word of a name, or a mark.
-#[derive(Clone, Copy)]
+#[derive(Clone, Copy, PartialEq, Eq, Debug)]
 pub enum Part<'a> {
     Word(&'a [u8]),
     Dot,
@@ -27,12 +27,10 @@ fn word_end(text: &[u8], from: usize) -> usize
     requires { from ≤ length text.now }
     ensures { WordEnd text.now from result }
 {
-    for i in from..text.len() {
-        if !is_word_byte(text[i]) {
-            return i;
-        }
-    }
-    text.len()
+    from + text[from..]
+        .iter()
+        .take_while(|b| is_word_byte(**b))
+        .count()
 }
 
 impl<'a> Iterator for Parts<'a> {
@@ -45,16 +43,14 @@ impl<'a> Iterator for Parts<'a> {
     fn next(&mut self) -> Option<(usize, Part<'a>)> {
         let text = self.text;
         let place = self.at;
-        if place >= text.len() {
-            return None;
-        }
+        let first = *text.get(place)?;
         let end = word_end(text, place);
         if end > place {
             self.at = end;
             return Some((place, Part::Word(&text[place..end])));
         }
         self.at = place + 1;
-        let part = match text[place] {
+        let part = match first {
             b'.' => Part::Dot,
             b'@' => Part::At,
             _ => Part::Plus,
