@@ -1,5 +1,5 @@
 -- What the checks of names and partial names answer.
-use Rattle.std.proofs.Common.{◌≡◌, ℕ, ◌+◌, ◌*◌, ◌<◌, ◌≤◌, List, length, sym, ap, subst, arith}
+use Rattle.std.proofs.Common.{◌≡◌, ℕ, ◌+◌, ◌*◌, ◌≤◌, List, length, sym, ap, subst, arith}
 use Rattle.faults.specs.declared.fault.Fault.{Fault}
 use Rattle.faults.specs.declared.kind.Kind.TheVariants.{NameTooLong}
 use Rattle.names.specs.Language.{Stuck}
@@ -8,6 +8,7 @@ use Rattle.names.specs.Names.{Part, Partial, Steps, Spelled, IsName, LawfulName}
 use Rattle.names.specs.Faults.{fault, mark_byte, NameFault, PartialFault, stuck, parts, stuck_partial}
 use Rattle.names.specs.Joints.{Unjoined, JointAt}
 use Rattle.names.proofs.Forms.{dot_byte, joined_name, name_joined, joined_partial, spelled_partial}
+use Rattle.names.proofs.Counts.{joint_more}
 use Rattle.names.proofs.Places.{alternates, count_parts, place_of}
 
 -- a text leaves two languages that have the same texts at the same place
@@ -23,13 +24,13 @@ module _ (text : List ℕ) where
   pub name_slip : (f : Fault) → length text ≤ 255 → Unjoined mark_byte text f → NameFault text f
   name_slip f le s = subst (NameFault text) (sym s.told) (stuck le (stuck_same (Joined mark_byte) (Spelled Steps) (λ t. joined_name) (λ t. name_joined) text s.place s.stuck))
 
-  pub name_parts : (place : ℕ) → length text ≤ 255 → Joined mark_byte text → 31 < count_of mark_byte text → JointAt mark_byte text 31 place → NameFault text (fault NameTooLong place)
-  name_parts place le j many here =
+  pub name_parts : (place : ℕ) → length text ≤ 255 → Joined mark_byte text → JointAt mark_byte text 31 place → NameFault text (fault NameTooLong place)
+  name_parts place le j here =
       let r = joined_name j in
       let a = alternates r.form in
       let there = place_of a 31 place (subst (λ t. JointAt mark_byte t 31 place) (sym r.spelling) here) in
       subst (λ p. NameFault text (fault NameTooLong p)) (sym there)
-      (parts {ps = r.parts} le r.form r.spelling (omega (arith, count_parts a, ap (count_of mark_byte) r.spelling)))
+      (parts {ps = r.parts} le r.form r.spelling (omega (arith, count_parts a, ap (count_of mark_byte) r.spelling, joint_more mark_byte text 31 place here)))
 
   pub name_lawful : length text ≤ 255 → Joined mark_byte text → count_of mark_byte text ≤ 31 → LawfulName text
   name_lawful le j few =

@@ -1,5 +1,5 @@
 -- Whether a text is a lawful name is decided by reading it, so the mere statement that it is one gives its parts.
-use Rattle.std.proofs.Common.{◌≡◌, ℕ, zero, suc, ◌⊎◌, List, length, Some, None, Option, refl, inl, inr, ⊎_elim, arith}
+use Rattle.std.proofs.Common.{◌≡◌, ℕ, zero, suc, ◌≤◌, ◌⊎◌, List, length, Some, None, Option, refl, inl, inr, ⊎_elim, arith}
 use mathlib.Core.HLevel.{⊥_prop}
 use mathlib.Core.Logic.{∥∥₁_elim}
 use Rattle.std.proofs.lemmas.Bool.{cases_lt}
@@ -41,3 +41,7 @@ module _ (text : List ℕ) where
   -- a text that is merely a lawful name is one, with its parts
   pub lawful_name : ∥ LawfulName text ∥₁ → LawfulName text
   lawful_name = from_mere (LawfulName text) decide_name
+
+  -- so it has no more marks than a name may have
+  pub marks_few : ∥ LawfulName text ∥₁ → count_of mark_byte text ≤ 31
+  marks_few h = let n = lawful_name h in omega (arith, parts_counted text _ refl n.0 n.1, n.1.few)

@@ -85,7 +85,7 @@ count_parts (next {w = w} {m = m} {ps = ps} b h is a) = omega (arith, count_part
 pub place_of : {ps : List Part} → Alternates ps → (n p : ℕ) → JointAt mark_byte (spell ps) n p → p ≡ length (spell (take (2 * n + 1) ps))
 place_of (last {w = w} h) n p j =
     let e = append-nil w in
-    absurd (unmarked w h.bytes p (omega (arith, j.within, ap length e)) (ap (λ t. mark_byte (get_or t p 0)) (sym e) ∙ j.joint))
+    absurd (unmarked w h.bytes p (omega (arith, j.within, ap length e)) (ap (λ t. mark_byte (get_or t p 0)) (sym e) ∙ j.is_joint))
 place_of (next {w = w} {m = m} {ps = ps} b h is a) n p j =
     let t = spell ps in
     let e : spell (word w ∷ m ∷ ps) ≡ w ++ (b ∷ t) = spelled_cut w m b ps is in
@@ -95,14 +95,14 @@ place_of (next {w = w} {m = m} {ps = ps} b h is a) n p j =
     let first : 1 ≡ 2 * n + 1 = omega (arith, none) in
     same ∙ sym (ap length (append-nil w)) ∙ ap (λ k. length (spell (take k (word w ∷ m ∷ ps)))) first)
     (⊎_elim
-    (λ less. absurd (unmarked w h.bytes p less (ap mark_byte (sym (get_or_append_left w (b ∷ t) 0 p less) ∙ ap (λ u. get_or u p 0) (sym e)) ∙ j.joint)))
+    (λ less. absurd (unmarked w h.bytes p less (ap mark_byte (sym (get_or_append_left w (b ∷ t) 0 p less) ∙ ap (λ u. get_or u p 0) (sym e)) ∙ j.is_joint)))
     (λ more.
     let q = p - length w - 1 in
     let split : p ≡ length w + suc q = omega arith in
     let here : get_or (spell (word w ∷ m ∷ ps)) p 0 ≡ get_or t q 0 = ap (λ u. get_or u p 0) e ∙ ap (λ k. get_or (w ++ (b ∷ t)) k 0) split ∙ get_or-append-add w (b ∷ t) (suc q) 0 in
     let front : take p (spell (word w ∷ m ∷ ps)) ≡ w ++ (b ∷ take q t) = ap (take p) e ∙ ap (λ k. take k (w ++ (b ∷ t))) split ∙ take_past w (b ∷ t) (suc q) in
     let fewer : n ≡ 1 + count_of mark_byte (take q t) = sym j.before ∙ ap (count_of mark_byte) front ∙ cut w b (take q t) h.bytes is.1 in
-    let inner = place_of a (n - 1) q (record { within = omega (arith, j.within, ap length e, length-append w (b ∷ t)); joint = ap mark_byte (sym here) ∙ j.joint; before = omega arith }) in
+    let inner = place_of a (n - 1) q (record { within = omega (arith, j.within, ap length e, length-append w (b ∷ t)); is_joint = ap mark_byte (sym here) ∙ j.is_joint; before = omega arith }) in
     let two-more : 2 * n + 1 ≡ suc (suc (2 * (n - 1) + 1)) = omega (arith, fewer) in
     let shown : length (spell (take (2 * n + 1) (word w ∷ m ∷ ps))) ≡ length (w ++ (b ∷ spell (take (2 * (n - 1) + 1) ps))) = ap (λ k. length (spell (take k (word w ∷ m ∷ ps)))) two-more ∙ ap length (spelled_cut w m b (take (2 * (n - 1) + 1) ps) is) in
     omega (arith, shown, length-append w (b ∷ spell (take (2 * (n - 1) + 1) ps)))))

@@ -1,5 +1,6 @@
 -- A path is a slash and words joined by slashes.
-use Rattle.std.proofs.Common.{◌≡◌, ℕ, ◌+◌, ◌<◌, ◌≤◌, List, [], ◌∷◌, ◌++◌, length, get_or, take, sym, refl, ap, subst, add-one, arith, eqb-true}
+use Rattle.std.proofs.Common.{◌≡◌, ℕ, ◌+◌, ◌<◌, ◌≤◌, true, nat_eq, List, [], ◌∷◌, ◌++◌, length, get_or, take, drop, take-append-drop, sym, refl, ap, ◌∙◌, subst, add-one, arith, eqb-true}
+use Rattle.std.specs.Cmp.Lexicographic.{pointwise, same_text}
 use Rattle.faults.specs.declared.fault.Fault.{Fault}
 use Rattle.faults.specs.declared.kind.Kind.TheVariants.{PathUnlawful}
 use Rattle.names.specs.Language.{Begins, Stuck}
@@ -41,12 +42,16 @@ path_slip text t f e le s =
     let k : f.place ≡ s.place = ap (λ g. g.place) s.told in
     subst (λ p. PathFault text (fault PathUnlawful (p + 1))) (sym k) (stuck_path le (subst (λ u. Stuck IsPath u (s.place + 1)) (sym e) (path_stuck t s.place s.stuck)))
 
+-- what a text begins with, and the rest
+pub slashed : (text words : List ℕ) → true ≡ pointwise nat_eq (take 1 text) (47 ∷ []) → words ≡ drop 1 text → text ≡ 47 ∷ words
+slashed text words found rest = let begun = same_text (take 1 text) (47 ∷ []) found in sym (take-append-drop 1 text) ∙ (λ i. begun i ++ sym rest i)
+
 letter : Word (97 ∷ [])
 unfolding word_byte
 letter = record { some = omega arith; few = omega arith; bytes = (refl, tt) }
 
 -- a path begins with a slash
-pub path_first : (text : List ℕ) → length text ≤ 64 → (0 < length text → get_or text 0 0 ≡ 47 → ⊥) → PathFault text (fault PathUnlawful 0)
+pub path_first : (text : List ℕ) → length text ≤ 64 → (take 1 text ≡ 47 ∷ [] → ⊥) → PathFault text (fault PathUnlawful 0)
 path_first text le other = stuck_path le (record {
   within = omega arith;
   before = (47 ∷ 97 ∷ [], one letter);
@@ -54,6 +59,6 @@ path_first text le other = stuck_path le (record {
   short = λ e p. let r = joined_of p in omega (arith, ap length r.1.0);
 })
   where
-    first : (u rest : List ℕ) → (0 < length u → get_or u 0 0 ≡ 47 → ⊥) → 0 < length u → (t : List ℕ) × ((take (0 + 1) u ++ rest ≡ 47 ∷ t) × Joined slash_byte t) → ⊥
+    first : (u rest : List ℕ) → (take 1 u ≡ 47 ∷ [] → ⊥) → 0 < length u → (t : List ℕ) × ((take (0 + 1) u ++ rest ≡ 47 ∷ t) × Joined slash_byte t) → ⊥
     first [] rest out lt r = omega arith
-    first (b ∷ u) rest out lt r = out lt (ap (λ l. get_or l 0 0) r.1.0)
+    first (b ∷ u) rest out lt r = out (ap (λ l. get_or l 0 0 ∷ []) r.1.0)

@@ -1,38 +1,19 @@
 //! Words joined by single bytes: the shape that names, partial names and paths share.
-ghost use Rattle.std.specs.Prelude.{◌≡◌, ◌<◌, ◌&&◌, if◌then◌else◌, MatchResult};
+ghost use Rattle.std.specs.Prelude.{◌≡◌, ℕ, ◌≤◌, Bool, ◌&&◌, if◌then◌else◌, MatchOption, MatchResult};
 ghost use Rattle.faults.specs.declared.kind.Kind.TheVariants.{ByteNotAllowed, WordMissing, WordTooLong};
 ghost use Rattle.names.specs.Words.{word_byte, Joined, count_of};
 ghost use Rattle.names.specs.Faults.{mark_byte};
-ghost use Rattle.names.specs.Joints.{joins, Unjoined, JointAt};
+ghost use Rattle.names.specs.Joints.{TellsJoints, Unjoined, JointAt};
 
 use super::word::{MAX_WORD_BYTES, is_word_byte};
 use faults::fault::Fault;
 use faults::kind::Kind;
 
-/// Which bytes join words: the marks of a name, the dots of a partial name, the slashes of a path.
-#[derive(Clone, Copy)]
-pub(crate) enum Joints {
-    Marks,
-    Dots,
-    Slashes,
-}
-
-fn is_mark(b: u8) -> bool
+/// Whether the byte is a mark, which joins the words of a name.
+pub(crate) fn is_mark(b: u8) -> bool
     ensures { result ≡ mark_byte b }
 {
-    b == b'.' || b == b'@' || b == b'+'
-}
-
-impl Joints {
-    fn take(self, b: u8) -> bool
-        ensures { result ≡ joins self b }
-    {
-        match self {
-            Joints::Marks => is_mark(b),
-            Joints::Dots => b == b'.',
-            Joints::Slashes => b == b'/',
-        }
-    }
+    matches!(b, b'.' | b'@' | b'+')
 }
 
 // The kind of fault at a byte that cannot go on, where a word is due or not.
@@ -48,18 +29,18 @@ fn kind_of(b: u8, due: bool) -> Kind
     }
 }
 
-/// Reads joined words, and answers how many bytes join them.
-pub(crate) fn read_joined(text: &[u8], joints: Joints) -> Result<usize, Fault>
-    ensures { MatchResult result (λ n. Joined (joins joints) text.now × (n ≡ count_of (joins joints) text.now)) (λ f. Unjoined (joins joints) text.now f) }
+/// Checks that the text is words, joined by the bytes that the test takes.
+pub(crate) fn check_joined<F: Fn(u8) -> bool>(text: &[u8], joins: F) -> Result<(), Fault>
+    requires { F.IsAlwaysCallable joins }
+    ensures { (joint : ℕ → Bool) → TellsJoints F.Fn joins joint → MatchResult result (λ _. Joined joint text.now) (Unjoined joint text.now) }
 {
-    let mut count = 0;
+    // A loop: it ends at the first byte that cannot go on, and tells its place.
     let mut letters = 0;
     for (i, b) in text.iter().enumerate() {
         if is_word_byte(*b) && letters < MAX_WORD_BYTES {
             letters += 1;
-        } else if letters > 0 && joints.take(*b) {
+        } else if letters > 0 && joins(*b) {
             letters = 0;
-            count += 1;
         } else {
             return Err(Fault::at(kind_of(*b, letters == 0), i));
         }
@@ -67,21 +48,23 @@ pub(crate) fn read_joined(text: &[u8], joints: Joints) -> Result<usize, Fault>
     if letters == 0 {
         return Err(Fault::at(Kind::WordMissing, text.len()));
     }
-    Ok(count)
+    Ok(())
 }
 
-/// The place of the joint that has `n` others before it, where the text has so many.
-pub(crate) fn nth_joint(text: &[u8], joints: Joints, n: usize) -> usize
-    ensures { n < count_of (joins joints) text.now → JointAt (joins joints) text.now n result }
+/// How many marks the text has.
+pub(crate) fn count_marks(text: &[u8]) -> usize
+    ensures { result ≡ count_of mark_byte text.now }
 {
-    let mut seen = 0;
-    for (i, b) in text.iter().enumerate() {
-        if joints.take(*b) {
-            if seen == n {
-                return i;
-            }
-            seen += 1;
-        }
-    }
-    text.len()
+    text.iter().filter(|b| is_mark(**b)).count()
+}
+
+/// The place of the mark that has `n` others before it, or none where the text has too few.
+pub(crate) fn nth_mark(text: &[u8], n: usize) -> Option<usize>
+    ensures { MatchOption result (count_of mark_byte text.now ≤ n) (JointAt mark_byte text.now n) }
+{
+    text.iter()
+        .enumerate()
+        .filter(|(_, b)| is_mark(**b))
+        .nth(n)
+        .map(|(place, _)| place)
 }

@@ -2,6 +2,7 @@
 #![tactic(auto)]
 
 mod joint;
+mod limit;
 pub mod name;
 pub mod part;
 pub mod path;

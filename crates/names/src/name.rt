@@ -1,15 +1,16 @@
 //! Names, and the partial names that calls are given.
-ghost use Rattle.std.specs.Prelude.{◌≡◌, ℕ, ◌+◌, ◌*◌, ◌≤◌, MatchResult};
-ghost use Rattle.faults.specs.Answers.{Accepted, Refused};
+ghost use Rattle.std.specs.Prelude.{◌≡◌, ℕ, ◌+◌, ◌*◌, ◌≤◌};
 ghost use Rattle.texts.specs.Shown.{shown};
 ghost use Rattle.names.specs.Words.{count_of};
 ghost use Rattle.names.specs.Names.{LawfulName, LawfulPartial, OneRow, PartsOf};
 ghost use Rattle.names.specs.Faults.{NameFault, PartialFault, mark_byte};
 
-use super::joint::{Joints, nth_joint, read_joined};
+use super::joint::{check_joined, count_marks, is_mark, nth_mark};
+use super::limit::copy_within;
 use super::part::Parts;
 use faults::fault::Fault;
 use faults::kind::Kind;
+use faults::lawful::LawfulText;
 use texts::Text;
 
 /// The most bytes that a name has.
@@ -31,31 +32,33 @@ pub struct Name {
     marks: usize,
     ghost lawful: { ∥ LawfulName (shown text) ∥₁ },
     ghost counted: { marks ≡ count_of mark_byte (shown text) },
-    ghost few: { marks ≤ 31 },
+}
+
+impl LawfulText for Name {
+    ghost shows = { λ n. shown n.text };
+
+    ghost lawful = { LawfulName };
+
+    ghost faulty = { NameFault };
+
+    fn new(text: &[u8]) -> Result<Name, Fault> {
+        let held = copy_within::<MAX_NAME_BYTES>(text, Kind::NameTooLong)?;
+        check_joined(text, is_mark)?;
+        if let Some(place) = nth_mark(text, MAX_MARKS) {
+            return Err(Fault::at(Kind::NameTooLong, place));
+        }
+        Ok(Name {
+            text: held,
+            marks: count_marks(text),
+        })
+    }
+
+    fn as_bytes(&self) -> &[u8] {
+        Text::as_bytes(&self.text)
+    }
 }
 
 impl Name {
-    /// The name that the text is, or the fault that it has.
-    pub fn new(text: &[u8]) -> Result<Name, Fault>
-        ensures { MatchResult result (λ n. (shown n.text ≡ text.now) × Accepted (LawfulName text.now) (NameFault text.now)) (λ f. Refused (LawfulName text.now) (NameFault text.now) f) }
-    {
-        let Some(held) = Text::copy_of(text) else {
-            return Err(Fault::at(Kind::NameTooLong, MAX_NAME_BYTES));
-        };
-        let marks = read_joined(text, Joints::Marks)?;
-        if marks > MAX_MARKS {
-            return Err(Fault::at(Kind::NameTooLong, nth_joint(text, Joints::Marks, MAX_MARKS)));
-        }
-        Ok(Name { text: held, marks })
-    }
-
-    /// The bytes of the name.
-    pub fn as_bytes(&self) -> &[u8]
-        ensures { result.now ≡ shown self.now.text }
-    {
-        Text::as_bytes(&self.text)
-    }
-
     /// How many parts the name has, words and marks.
     pub fn part_count(&self) -> usize
         ensures { PartsOf (shown self.now.text) result }
@@ -83,22 +86,20 @@ pub struct PartialName {
     ghost lawful: { ∥ LawfulPartial (shown text) ∥₁ },
 }
 
-impl PartialName {
-    /// The partial name that the text is, or the fault that it has.
-    pub fn new(text: &[u8]) -> Result<PartialName, Fault>
-        ensures { MatchResult result (λ n. (shown n.text ≡ text.now) × Accepted (LawfulPartial text.now) (PartialFault text.now)) (λ f. Refused (LawfulPartial text.now) (PartialFault text.now) f) }
-    {
-        let Some(held) = Text::copy_of(text) else {
-            return Err(Fault::at(Kind::NameTooLong, MAX_PARTIAL_BYTES));
-        };
-        read_joined(text, Joints::Dots)?;
+impl LawfulText for PartialName {
+    ghost shows = { λ n. shown n.text };
+
+    ghost lawful = { LawfulPartial };
+
+    ghost faulty = { PartialFault };
+
+    fn new(text: &[u8]) -> Result<PartialName, Fault> {
+        let held = copy_within::<MAX_PARTIAL_BYTES>(text, Kind::NameTooLong)?;
+        check_joined(text, |b| b == b'.')?;
         Ok(PartialName { text: held })
     }
 
-    /// The bytes of the partial name.
-    pub fn as_bytes(&self) -> &[u8]
-        ensures { result.now ≡ shown self.now.text }
-    {
+    fn as_bytes(&self) -> &[u8] {
         self.text.as_bytes()
     }
 }

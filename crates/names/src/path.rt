@@ -1,13 +1,15 @@
 //! Paths: where a list is posted, and what a decision is asked for.
-ghost use Rattle.std.specs.Prelude.{◌≡◌, MatchResult};
-ghost use Rattle.faults.specs.Answers.{Accepted, Refused};
+ghost use Rattle.std.specs.Prelude.{◌≡◌, ◌+◌, ◌^◌, ◌<◌};
+ghost use Rattle.faults.specs.declared.kind.Kind.TheVariants.{PathUnlawful};
 ghost use Rattle.texts.specs.Shown.{shown};
 ghost use Rattle.names.specs.Paths.{LawfulPath};
 ghost use Rattle.names.specs.Faults.{PathFault};
 
-use super::joint::{Joints, read_joined};
+use super::joint::check_joined;
+use super::limit::copy_within;
 use faults::fault::Fault;
 use faults::kind::Kind;
+use faults::lawful::LawfulText;
 use texts::Text;
 
 /// The most bytes that a path has.
@@ -20,27 +22,31 @@ pub struct Path {
     ghost lawful: { ∥ LawfulPath (shown text) ∥₁ },
 }
 
-impl Path {
-    /// The path that the text is, or the fault that it has.
-    pub fn new(text: &[u8]) -> Result<Path, Fault>
-        ensures { MatchResult result (λ p. (shown p.text ≡ text.now) × Accepted (LawfulPath text.now) (PathFault text.now)) (λ f. Refused (LawfulPath text.now) (PathFault text.now) f) }
-    {
-        let Some(held) = Text::copy_of(text) else {
-            return Err(Fault::at(Kind::PathUnlawful, MAX_PATH_BYTES));
-        };
-        let [b'/', words @ ..] = text else {
-            return Err(Fault::at(Kind::PathUnlawful, 0));
-        };
-        match read_joined(words, Joints::Slashes) {
-            Ok(_) => Ok(Path { text: held }),
-            Err(fault) => Err(Fault::at(Kind::PathUnlawful, fault.place + 1)),
-        }
+// The fault of a path, where the words behind its first slash have a fault.
+fn behind_slash(fault: Fault) -> Fault
+    requires { fault.place + 1 < 2 ^ 64 }
+    ensures { result ≡ record { kind = PathUnlawful; text = 0; place = fault.place + 1 } }
+{
+    Fault::at(Kind::PathUnlawful, fault.place + 1)
+}
+
+impl LawfulText for Path {
+    ghost shows = { λ p. shown p.text };
+
+    ghost lawful = { LawfulPath };
+
+    ghost faulty = { PathFault };
+
+    fn new(text: &[u8]) -> Result<Path, Fault> {
+        let held = copy_within::<MAX_PATH_BYTES>(text, Kind::PathUnlawful)?;
+        let words = text
+            .strip_prefix(b"/")
+            .ok_or(Fault::at(Kind::PathUnlawful, 0))?;
+        check_joined(words, |b| b == b'/').map_err(behind_slash)?;
+        Ok(Path { text: held })
     }
 
-    /// The bytes of the path.
-    pub fn as_bytes(&self) -> &[u8]
-        ensures { result.now ≡ shown self.now.text }
-    {
+    fn as_bytes(&self) -> &[u8] {
         self.text.as_bytes()
     }
 }
