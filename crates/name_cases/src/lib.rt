@@ -3,163 +3,116 @@
 
 #[cfg(test)]
 mod tests {
-    use faults::fault::Fault;
+    use faults::lawful::LawfulText;
     use names::name::{Name, PartialName};
     use names::part::Part;
     use names::path::Path;
+    use std::array;
     use std::test::Fail;
 
-    // Whether the fault has this number and layer, text 0 and this place.
-    fn is_fault(found: Option<Fault>, number: u8, layer: u8, place: usize) -> bool {
-        match found {
-            Some(fault) => fault.kind.number() == number
-                && fault.kind.layer() == layer
-                && fault.text == 0
-                && fault.place == place,
-            None => false,
-        }
-    }
-
-    fn name(text: &[u8], number: u8, place: usize) -> bool {
-        is_fault(Name::new(text).err(), number, 1, place)
-    }
-
-    fn partial(text: &[u8], number: u8, place: usize) -> bool {
-        is_fault(PartialName::new(text).err(), number, 1, place)
-    }
-
-    fn path(text: &[u8], place: usize) -> bool {
-        is_fault(Path::new(text).err(), 16, 4, place)
+    // The four numbers of the fault that the text has: its number, its layer, its text and its place.
+    fn told<T: LawfulText + Drop>(text: &[u8]) -> Option<(u8, u8, usize, usize)> {
+        T::new(text).err().map(|fault| {
+            (
+                fault.kind.number(),
+                fault.kind.layer(),
+                fault.text,
+                fault.place,
+            )
+        })
     }
 
     // Words of 31 letters joined by dots, `N` bytes in all.
     fn dotted<const N: usize>() -> [u8; N] {
-        let mut text = [b'w'; N];
-        for i in 0..N {
-            if i % 32 == 31 {
-                text[i] = b'.';
-            }
-        }
-        text
+        array::from_fn(|i| if i % 32 == 31 { b'.' } else { b'w' })
     }
 
     // Letters with a mark at every second place, `N` bytes in all.
     fn alternating<const N: usize>(mark: u8) -> [u8; N] {
-        let mut text = [b'a'; N];
-        for i in 0..N {
-            if i % 2 == 1 {
-                text[i] = mark;
-            }
-        }
-        text
+        array::from_fn(|i| if i % 2 == 1 { mark } else { b'a' })
+    }
+
+    fn is_word_byte(b: u8) -> bool {
+        b.is_ascii_alphanumeric() || matches!(b, b'-' | b'_')
+    }
+
+    fn is_mark(b: u8) -> bool {
+        matches!(b, b'.' | b'@' | b'+')
     }
 
     #[test]
     fn every_byte_alone(rt: HostRuntime) {
         for b in 0..=255u8 {
             let text = [b];
-            let word = b.is_ascii_alphanumeric() || b == b'-' || b == b'_';
-            let number = if b == b'.' || b == b'@' || b == b'+' {
-                2
+            let expected = if is_word_byte(b) {
+                None
             } else {
-                1
+                Some((if is_mark(b) { 2 } else { 1 }, 1, 0, 0))
             };
-            assert!(rt;
-                if word {
-                    Name::new(&text).is_ok()
-                } else {
-                    name(&text, number, 0)
-                }
-            );
-            assert!(rt;
-                if word {
-                    PartialName::new(&text).is_ok()
-                } else {
-                    partial(&text, number, 0)
-                }
-            );
-            assert!(rt; path(&text, if b == b'/' { 1 } else { 0 }));
+            assert!(rt; told::<Name>(&text) == expected);
+            assert!(rt; told::<PartialName>(&text) == expected);
+            let place = if b == b'/' { 1 } else { 0 };
+            assert!(rt; told::<Path>(&text) == Some((16, 4, 0, place)));
+        }
+    }
+
+    // The fault of a text whose second byte is no word's: a mark leaves a word due at the end.
+    fn behind_a_word(is_mark: bool) -> Option<(u8, u8, usize, usize)> {
+        if is_mark {
+            Some((2, 1, 0, 2))
+        } else {
+            Some((1, 1, 0, 1))
         }
     }
 
     #[test]
     fn every_byte_after_a_word(rt: HostRuntime) {
         for b in 0..=255u8 {
-            let word = b.is_ascii_alphanumeric() || b == b'-' || b == b'_';
-            let mark = b == b'.' || b == b'@' || b == b'+';
             let text = [b'a', b];
-            assert!(rt;
-                if word {
-                    Name::new(&text).is_ok()
-                } else {
-                    name(&text, if mark { 2 } else { 1 }, if mark { 2 } else { 1 })
-                }
-            );
-            assert!(rt;
-                if word {
-                    PartialName::new(&text).is_ok()
-                } else {
-                    partial(
-                        &text,
-                        if b == b'.' { 2 } else { 1 },
-                        if b == b'.' { 2 } else { 1 },
-                    )
-                }
-            );
-            assert!(rt;
-                if word {
-                    Path::new(&[b'/', b]).is_ok()
-                } else {
-                    path(&[b'/', b], 1)
-                }
-            );
+            let path = [b'/', b];
+            if is_word_byte(b) {
+                assert!(rt; told::<Name>(&text).is_none());
+                assert!(rt; told::<PartialName>(&text).is_none());
+                assert!(rt; told::<Path>(&path).is_none());
+            } else {
+                assert!(rt; told::<Name>(&text) == behind_a_word(is_mark(b)));
+                assert!(rt; told::<PartialName>(&text) == behind_a_word(b == b'.'));
+                assert!(rt; told::<Path>(&path) == Some((16, 4, 0, 1)));
+            }
         }
     }
 
     #[test]
     fn name_bytes(rt: HostRuntime) {
-        assert!(rt; name(b"", 2, 0));
-        assert!(rt; Name::new(&dotted::<254>()).is_ok());
-        assert!(rt; Name::new(&dotted::<255>()).is_ok());
-        assert!(rt; name(&dotted::<256>(), 4, 255));
-        assert!(rt; name(&[b'!'; 256], 4, 255));
-        assert!(rt; name(&[0; 4095], 4, 255));
+        assert!(rt; told::<Name>(b"") == Some((2, 1, 0, 0)));
+        assert!(rt; told::<Name>(&dotted::<254>()).is_none());
+        assert!(rt; told::<Name>(&dotted::<255>()).is_none());
+        assert!(rt; told::<Name>(&dotted::<256>()) == Some((4, 1, 0, 255)));
+        assert!(rt; told::<Name>(&[b'!'; 256]) == Some((4, 1, 0, 255)));
+        assert!(rt; told::<Name>(&[0; 4095]) == Some((4, 1, 0, 255)));
     }
 
     #[test]
     fn name_parts(rt: HostRuntime) {
-        assert!(rt; Name::new(&alternating::<61>(b'+')).is_ok());
-        assert!(rt; Name::new(&alternating::<63>(b'@')).is_ok());
-        assert!(rt; name(&alternating::<64>(b'+'), 2, 64));
-        assert!(rt; name(&alternating::<65>(b'+'), 4, 63));
-        assert!(rt; name(&alternating::<255>(b'.'), 4, 63));
-    }
-
-    // Whether the walk's next part is this word, or this mark by its byte, at this place.
-    fn is_part(next: Option<(usize, Part<'_>)>, bytes: &[u8], place: usize) -> bool {
-        match next {
-            Some((at, Part::Word(word))) => at == place && word == bytes,
-            Some((at, Part::Dot)) => at == place && bytes == b".".as_slice(),
-            Some((at, Part::At)) => at == place && bytes == b"@".as_slice(),
-            Some((at, Part::Plus)) => at == place && bytes == b"+".as_slice(),
-            None => false,
-        }
+        assert!(rt; told::<Name>(&alternating::<61>(b'+')).is_none());
+        assert!(rt; told::<Name>(&alternating::<63>(b'@')).is_none());
+        assert!(rt; told::<Name>(&alternating::<64>(b'+')) == Some((2, 1, 0, 64)));
+        assert!(rt; told::<Name>(&alternating::<65>(b'+')) == Some((4, 1, 0, 63)));
+        assert!(rt; told::<Name>(&alternating::<255>(b'.')) == Some((4, 1, 0, 63)));
     }
 
     #[test]
     fn parts_in_order(rt: HostRuntime) -> Result<(), Fail> {
-        let Ok(name) = Name::new(b"lock.up@ted+app") else {
-            return Err(Fail::new("refused"));
-        };
+        let name = Name::new(b"lock.up@ted+app")?;
         assert!(rt; name.part_count() == 7);
         let mut parts = name.parts();
-        assert!(rt; is_part(parts.next(), b"lock", 0));
-        assert!(rt; is_part(parts.next(), b".", 4));
-        assert!(rt; is_part(parts.next(), b"up", 5));
-        assert!(rt; is_part(parts.next(), b"@", 7));
-        assert!(rt; is_part(parts.next(), b"ted", 8));
-        assert!(rt; is_part(parts.next(), b"+", 11));
-        assert!(rt; is_part(parts.next(), b"app", 12));
+        assert!(rt; parts.next() == Some((0, Part::Word(b"lock"))));
+        assert!(rt; parts.next() == Some((4, Part::Dot)));
+        assert!(rt; parts.next() == Some((5, Part::Word(b"up"))));
+        assert!(rt; parts.next() == Some((7, Part::At)));
+        assert!(rt; parts.next() == Some((8, Part::Word(b"ted"))));
+        assert!(rt; parts.next() == Some((11, Part::Plus)));
+        assert!(rt; parts.next() == Some((12, Part::Word(b"app"))));
         assert!(rt; parts.next().is_none());
         assert!(rt; parts.next().is_none());
         Ok(())
@@ -167,60 +120,60 @@ mod tests {
 
     #[test]
     fn words(rt: HostRuntime) {
-        assert!(rt; Name::new(&[b'w'; 31]).is_ok());
-        assert!(rt; Name::new(&[b'w'; 32]).is_ok());
-        assert!(rt; name(&[b'w'; 33], 3, 32));
-        assert!(rt; partial(&[b'w'; 33], 3, 32));
-        assert!(rt; name(&[b'w'; 255], 3, 32));
-        assert!(rt; name(b"a b", 1, 1));
-        assert!(rt; name(b"a++b", 2, 2));
+        assert!(rt; told::<Name>(&[b'w'; 31]).is_none());
+        assert!(rt; told::<Name>(&[b'w'; 32]).is_none());
+        assert!(rt; told::<Name>(&[b'w'; 33]) == Some((3, 1, 0, 32)));
+        assert!(rt; told::<PartialName>(&[b'w'; 33]) == Some((3, 1, 0, 32)));
+        assert!(rt; told::<Name>(&[b'w'; 255]) == Some((3, 1, 0, 32)));
+        assert!(rt; told::<Name>(b"a b") == Some((1, 1, 0, 1)));
+        assert!(rt; told::<Name>(b"a++b") == Some((2, 1, 0, 2)));
     }
 
     #[test]
     fn partial_names(rt: HostRuntime) {
-        assert!(rt; partial(b"", 2, 0));
-        assert!(rt; PartialName::new(b"lock.upper").is_ok());
-        assert!(rt; PartialName::new(&dotted::<63>()).is_ok());
-        assert!(rt; partial(&dotted::<64>(), 2, 64));
+        assert!(rt; told::<PartialName>(b"") == Some((2, 1, 0, 0)));
+        assert!(rt; told::<PartialName>(b"lock.upper").is_none());
+        assert!(rt; told::<PartialName>(&dotted::<63>()).is_none());
+        assert!(rt; told::<PartialName>(&dotted::<64>()) == Some((2, 1, 0, 64)));
         assert!(rt;
-            PartialName::new(
-                b"wwwwwwwwwwwwwwwwwwwwwwwwwwwwwwww.lower.upper.gate.raise.keeper.x",
-            ).is_ok()
+            told::<PartialName>(
+                b"wwwwwwwwwwwwwwwwwwwwwwwwwwwwwwww.lower.upper.gate.raise.keeper.x"
+            ).is_none()
         );
         assert!(rt;
-            partial(
-                b"wwwwwwwwwwwwwwwwwwwwwwwwwwwwwwww.lower.upper.gate.raise.keeper.xy",
-                4,
-                64,
-            )
+            told::<PartialName>(
+                b"wwwwwwwwwwwwwwwwwwwwwwwwwwwwwwww.lower.upper.gate.raise.keeper.xy"
+            ) == Some((4, 1, 0, 64))
         );
-        assert!(rt; PartialName::new(&alternating::<63>(b'.')).is_ok());
-        assert!(rt; partial(&[b'!'; 65], 4, 64));
-        assert!(rt; partial(b"a@b", 1, 1));
-        assert!(rt; partial(b"a.@b", 2, 2));
-        assert!(rt; partial(b"a+b", 1, 1));
+        assert!(rt; told::<PartialName>(&alternating::<63>(b'.')).is_none());
+        assert!(rt; told::<PartialName>(&[b'!'; 65]) == Some((4, 1, 0, 64)));
+        assert!(rt; told::<PartialName>(b"a@b") == Some((1, 1, 0, 1)));
+        assert!(rt; told::<PartialName>(b"a.@b") == Some((2, 1, 0, 2)));
+        assert!(rt; told::<PartialName>(b"a+b") == Some((1, 1, 0, 1)));
     }
 
     #[test]
     fn paths(rt: HostRuntime) {
-        assert!(rt; path(b"", 0));
-        assert!(rt; path(b"/a//b", 3));
-        assert!(rt; path(b"/a/", 3));
-        assert!(rt; Path::new(b"/upper/gate-1").is_ok());
-        assert!(rt; path(b"/wwwwwwwwwwwwwwwwwwwwwwwwwwwwwwwww", 33));
+        assert!(rt; told::<Path>(b"") == Some((16, 4, 0, 0)));
+        assert!(rt; told::<Path>(b"/a//b") == Some((16, 4, 0, 3)));
+        assert!(rt; told::<Path>(b"/a/") == Some((16, 4, 0, 3)));
+        assert!(rt; told::<Path>(b"/upper/gate-1").is_none());
+        assert!(rt; told::<Path>(b"/wwwwwwwwwwwwwwwwwwwwwwwwwwwwwwwww") == Some((16, 4, 0, 33)));
         assert!(rt;
-            Path::new(b"/wwwwwwwwwwwwwwwwwwwwwwwwwwwwwwww/upper/lower/gates/gate1/raise",).is_ok()
+            told::<Path>(
+                b"/wwwwwwwwwwwwwwwwwwwwwwwwwwwwwwww/upper/lower/gates/gate1/raise"
+            ).is_none()
         );
         assert!(rt;
-            Path::new(b"/wwwwwwwwwwwwwwwwwwwwwwwwwwwwwwww/upper/lower/gates/gate1/raised",).is_ok()
+            told::<Path>(
+                b"/wwwwwwwwwwwwwwwwwwwwwwwwwwwwwwww/upper/lower/gates/gate1/raised"
+            ).is_none()
         );
         assert!(rt;
-            path(
-                b"/wwwwwwwwwwwwwwwwwwwwwwwwwwwwwwww/upper/lower/gates/gate1/raised1",
-                64,
-            )
+            told::<Path>(b"/wwwwwwwwwwwwwwwwwwwwwwwwwwwwwwww/upper/lower/gates/gate1/raised1")
+                == Some((16, 4, 0, 64))
         );
-        assert!(rt; path(&[b'/'; 65], 64));
-        assert!(rt; path(&[b'/'; 64], 1));
+        assert!(rt; told::<Path>(&[b'/'; 65]) == Some((16, 4, 0, 64)));
+        assert!(rt; told::<Path>(&[b'/'; 64]) == Some((16, 4, 0, 1)));
     }
 }
