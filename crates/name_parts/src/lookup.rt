@@ -8,6 +8,7 @@ ghost use Rattle.name_parts.specs.Texts.{text_of};
 use super::dotted::dotted_words;
 use super::outline::Outline;
 use super::table::NameParts;
+use faults::lawful::LawfulText;
 use names::name::Name;
 use positions::Positions;
 use runs::Runs;

@@ -6,6 +6,7 @@ use books::table::{TABLE_ROWS, TableBook};
 use faults::fault::Fault;
 use lists::list::AccessList;
 use matching::derives;
+use faults::lawful::LawfulText;
 use names::name::Name;
 use names::path::Path;
 use openings::open::open;
