@@ -1,6 +1,7 @@
 -- The parts of a name: words and marks in turn. How many there are, and where each begins.
 use Rattle.std.proofs.Common.{◌≡◌, ℕ, zero, suc, ◌+◌, ◌-◌, ◌*◌, ◌<◌, Bool, true, false, cond, eqb, List, [], ◌∷◌, ◌++◌, length, get_or, take, sym, refl, ap, ◌∙◌, ⊎_elim, append-nil, arith, length-append}
 use borrow.Author.Tests.{clash}
+use Rattle.std.proofs.Math.Seq.{take-append-add}
 use Rattle.std.proofs.lemmas.List.{take_at, get_or_append_left, get_or-append-add}
 use Rattle.std.proofs.lemmas.Bool.{cases_order}
 use Rattle.names.specs.Words.{WordBytes, Word, count_of}
@@ -71,11 +72,6 @@ cut w b t bs is = count_append mark_byte w (b ∷ t) ∙ omega (arith, no_marks 
 spelled_cut : (w : List ℕ) (m : Part) (b : ℕ) (ps : List Part) → Mark m b → spell (word w ∷ m ∷ ps) ≡ w ++ (b ∷ spell ps)
 spelled_cut w m b ps is = ap (λ u. w ++ (u ++ spell ps)) is.0
 
--- a front that reaches past another
-take_past : (s t : List ℕ) (k : ℕ) → take (length s + k) (s ++ t) ≡ s ++ take k t
-take_past [] t k = let e : 0 + k ≡ k = omega arith in ap (λ n. take n t) e
-take_past (b ∷ s) t k = let e : suc (length s) + k ≡ suc (length s + k) = omega arith in ap (λ n. take n (b ∷ (s ++ t))) e ∙ ap (λ u. b ∷ u) (take_past s t k)
-
 -- two parts for each mark, and the last word
 pub count_parts : {ps : List Part} → Alternates ps → length ps ≡ 2 * count_of mark_byte (spell ps) + 1
 count_parts (last {w = w} h) = omega (arith, no_marks w h.bytes, ap (count_of mark_byte) (append-nil w))
@@ -100,7 +96,7 @@ place_of (next {w = w} {m = m} {ps = ps} b h is a) n p j =
     let q = p - length w - 1 in
     let split : p ≡ length w + suc q = omega arith in
     let here : get_or (spell (word w ∷ m ∷ ps)) p 0 ≡ get_or t q 0 = ap (λ u. get_or u p 0) e ∙ ap (λ k. get_or (w ++ (b ∷ t)) k 0) split ∙ get_or-append-add w (b ∷ t) (suc q) 0 in
-    let front : take p (spell (word w ∷ m ∷ ps)) ≡ w ++ (b ∷ take q t) = ap (take p) e ∙ ap (λ k. take k (w ++ (b ∷ t))) split ∙ take_past w (b ∷ t) (suc q) in
+    let front : take p (spell (word w ∷ m ∷ ps)) ≡ w ++ (b ∷ take q t) = ap (take p) e ∙ ap (λ k. take k (w ++ (b ∷ t))) split ∙ take-append-add w (b ∷ t) (suc q) in
     let fewer : n ≡ 1 + count_of mark_byte (take q t) = sym j.before ∙ ap (count_of mark_byte) front ∙ cut w b (take q t) h.bytes is.1 in
     let inner = place_of a (n - 1) q (record { within = omega (arith, j.within, ap length e, length-append w (b ∷ t)); is_joint = ap mark_byte (sym here) ∙ j.is_joint; before = omega arith }) in
     let two-more : 2 * n + 1 ≡ suc (suc (2 * (n - 1) + 1)) = omega (arith, fewer) in

@@ -52,6 +52,7 @@ pub(crate) fn check_joined<F: Fn(u8) -> bool>(text: &[u8], joins: F) -> Result<(
 }
 
 /// How many marks the text has.
+#[tactic(auto, using(crate::proofs::Counts::count_of_is))]
 pub(crate) fn count_marks(text: &[u8]) -> usize
     ensures { result ≡ count_of mark_byte text.now }
 {

@@ -60,6 +60,7 @@ impl LawfulText for Name {
 
 impl Name {
     /// How many parts the name has, words and marks.
+    #[tactic(auto, using(crate::proofs::Deciding::marks_few, crate::proofs::Checks::parts_counted))]
     pub fn part_count(&self) -> usize
         ensures { PartsOf (shown self.now.text) result }
     {

@@ -5,7 +5,6 @@ use Rattle.names.proofs.Places.{mark_of}
 use Rattle.names.proofs.Walking.{other_mark, walks_end, walks_word, walks_mark, word_on, mark_on}
 use Rattle.names.proofs.part.PartsIterator.next.Goals as goal
 use Rattle.names.proofs.part.PartsIterator.next.Goals.{in-46, in-64, in_default}
-use Rattle.std.proofs.iter.Next.{firm}
 
 pub invariant_of-self : goal.invariant_of-self
 invariant_of-self c =
@@ -24,16 +23,13 @@ returns-in_err-first-clause-steps c =
     let past : length self.text.now ≤ self.at = search rules in
     subst (λ given. Walks self.text.now self.at given self.text.now self.at) (sym none) (walks_end self.text.now self.at past)
 
-pub returns-then-end-place : goal.returns-then-end-place
-returns-then-end-place c =
+pub returns-then-end-place-clause-steps : goal.returns-then-end-place-clause-steps
+returns-then-end-place-clause-steps c =
     let self = c.args.self.now in
-    record {
-      steps = walks_word self.text.now self.at _ c.word_end-end.result c.if-end-place.true c.word_end-end.ensures refl;
-      goes = firm ((tt, tt, omega arith)) (λ h. search rules);
-    }
+    walks_word self.text.now self.at _ c.word_end-end.result c.if-end-place.true c.word_end-end.ensures refl
 
-pub returns : goal.returns
-returns c =
+pub returns-clause-steps : goal.returns-clause-steps
+returns-clause-steps c =
     let self = c.args.self.now in
     let within : self.at < length self.text.now = search rules in
     let b = c.in_ok-first.field-0.now in
@@ -44,7 +40,4 @@ returns c =
       | in-64 w ↦ ap part_of w.part-is ∙ ap mark_of (sym w.in-64.is)
       | in_default w ↦ ap part_of w.part-is ∙ sym (other_mark b (λ e. omega arith) (λ e. omega arith))
     ] in
-    record {
-      steps = walks_mark self.text.now self.at c.match-first.part c.word_end-end.result within c.if-end-place.false c.word_end-end.ensures (mark ∙ ap mark_of here);
-      goes = firm ((tt, tt, omega (arith, within))) (λ h. search rules);
-    }
+    walks_mark self.text.now self.at c.match-first.part c.word_end-end.result within c.if-end-place.false c.word_end-end.ensures (mark ∙ ap mark_of here)
