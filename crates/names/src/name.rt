@@ -1,5 +1,5 @@
 //! Names, and the partial names that calls are given.
-ghost use Rattle.std.specs.Prelude.{◌≡◌, ℕ, ◌+◌, ◌*◌, ◌≤◌};
+ghost use Rattle.std.specs.Prelude.{◌≡◌};
 ghost use Rattle.texts.specs.Shown.{shown};
 ghost use Rattle.names.specs.Words.{count_of};
 ghost use Rattle.names.specs.Names.{LawfulName, LawfulPartial, OneRow, PartsOf};
