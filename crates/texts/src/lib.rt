@@ -18,9 +18,7 @@ impl<const N: usize> Text<N> {
             return None;
         }
         let mut all = [0u8; N];
-        for (i, b) in bytes.iter().enumerate() {
-            all[i] = *b;
-        }
+        all[..len].copy_from_slice(bytes);
         Some(Text { bytes: all, len })
     }
 
@@ -28,7 +26,6 @@ impl<const N: usize> Text<N> {
     pub fn as_bytes(&self) -> &[u8]
         ensures { result.now ≡ shown self.now }
     {
-        let all = &self.bytes[..];
-        &all[0..self.len]
+        &self.bytes[..self.len]
     }
 }
