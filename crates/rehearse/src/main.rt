@@ -10,81 +10,76 @@ use faults::lawful::LawfulText;
 use names::name::Name;
 use names::path::Path;
 use openings::open::open;
-use scripts::{Line, cut_at, read_line};
-use std::io;
+use openings::opened::Opened;
+use scripts::{Call, NotUnderstood, read_line};
+use std::fmt::Display;
 use std::io::{BufWriter, Read, Write};
+use std::{fmt, io};
 
 const LINE_END: u8 = 10;
 
+// A name, told by the count of its parts.
+#[derive(Clone, Copy)]
+struct PartCount(usize);
+
+impl Display for PartCount {
+    fn fmt<W: fmt::Write>(&self, f: &mut fmt::Formatter<W>) -> fmt::Result {
+        write!(f, "name {}", self.0)
+    }
+}
+
+// Whether the list derives the name. The name's fault comes before those of opening.
+fn verdict(book: &TableBook<'_>, name: &[u8], list: &[u8]) -> Result<&'static str, Fault> {
+    let name = Name::new(name)?;
+    let opened = open(list, book)?;
+    Ok(if derives(&opened, &name) { "yes" } else { "no" })
+}
+
 fn refuse(out: &mut impl Write, fault: Fault) -> io::Result<()> {
-    let number = fault.kind.number();
-    let layer = fault.kind.layer();
-    let text = fault.text;
-    let place = fault.place;
-    writeln!(out, "refused {number} {layer} {text} {place}")
+    writeln!(out, "refused {fault}")
 }
 
-fn answer_name(out: &mut impl Write, text: &[u8]) -> io::Result<()> {
-    match Name::new(text) {
-        Ok(name) => writeln!(out, "name {}", name.part_count()),
+// Answers a call with what it gives, or with its fault.
+fn answer_with(out: &mut impl Write, given: Result<impl Display + Drop, Fault>) -> io::Result<()> {
+    match given {
+        Ok(given) => writeln!(out, "{given}"),
         Err(fault) => refuse(out, fault),
     }
 }
 
-// Answers a call that only checks its text with the call's word.
-fn answer_check(out: &mut impl Write, word: &str, fault: Option<Fault>) -> io::Result<()> {
-    match fault {
-        None => writeln!(out, "{word}"),
-        Some(fault) => refuse(out, fault),
+// Writes the names of the groups that the list reaches, in the order of opening.
+fn write_names(out: &mut impl Write, opened: &Opened) -> io::Result<()> {
+    write!(out, "open")?;
+    for name in opened.names() {
+        write!(out, " ")?;
+        out.write_all(name.as_bytes())?;
     }
+    writeln!(out)
 }
 
-// Answers with the names of the groups that the list reaches, in the order of opening.
-fn answer_open(out: &mut impl Write, book: &TableBook<'_>, list: &[u8]) -> io::Result<()> {
-    match open(list, book) {
-        Ok(opened) => {
-            write!(out, "open")?;
-            for name in opened.names() {
-                write!(out, " ")?;
-                out.write_all(name.as_bytes())?;
-            }
-            writeln!(out, "")
-        }
-        Err(fault) => refuse(out, fault),
-    }
-}
-
-// Answers whether the list derives the name. The name's fault comes before those of opening.
-fn answer_match(
-    out: &mut impl Write,
-    book: &TableBook<'_>,
-    name: &[u8],
-    list: &[u8],
-) -> io::Result<()> {
-    let name = match Name::new(name) {
-        Ok(name) => name,
-        Err(fault) => return refuse(out, fault),
-    };
-    match open(list, book) {
-        Ok(opened) => {
-            let verdict = if derives(&opened, &name) { "yes" } else { "no" };
-            writeln!(out, "{verdict}")
-        }
-        Err(fault) => refuse(out, fault),
+fn answer_call(out: &mut impl Write, book: &mut TableBook<'_>, call: Call<'_>) -> io::Result<()> {
+    match call {
+        Call::Name(text) => answer_with(
+            out,
+            Name::new(text).map(|name| PartCount(name.part_count())),
+        ),
+        Call::Path(text) => answer_with(out, Path::new(text).map(|_| "path")),
+        Call::List(text) => answer_with(out, AccessList::new(text).map(|_| "list")),
+        Call::Group(name, text) => answer_with(out, book.add(name, text).map(|_| "group")),
+        Call::Ungroup(name) => answer_with(out, book.remove(name).map(|_| "ungroup")),
+        Call::Open(list) => match open(list, book) {
+            Ok(opened) => write_names(out, &opened),
+            Err(fault) => refuse(out, fault),
+        },
+        Call::Match(name, list) => answer_with(out, verdict(book, name, list)),
     }
 }
 
 fn answer(out: &mut impl Write, book: &mut TableBook<'_>, line: &[u8]) -> io::Result<()> {
     match read_line(line) {
-        Line::Silent => Ok(()),
-        Line::Name(text) => answer_name(out, text),
-        Line::Path(text) => answer_check(out, "path", Path::new(text).err()),
-        Line::List(text) => answer_check(out, "list", AccessList::new(text).err()),
-        Line::Group(name, text) => answer_check(out, "group", book.add(name, text).err()),
-        Line::Ungroup(name) => answer_check(out, "ungroup", book.remove(name).err()),
-        Line::Open(text) => answer_open(out, book, text),
-        Line::Match(name, text) => answer_match(out, book, name, text),
-        Line::NotUnderstood => writeln!(out, "not understood"),
+        Ok(None) => Ok(()),
+        Ok(Some(call)) => answer_call(out, book, call),
+        Err(NotUnderstood) => writeln!(out, "not understood"),
     }
 }
 
@@ -92,12 +87,10 @@ fn answer(out: &mut impl Write, book: &mut TableBook<'_>, line: &[u8]) -> io::Re
 fn rehearse(out: &mut impl Write, script: &[u8]) -> io::Result<()> {
     let mut rows = [Group::spare(); TABLE_ROWS];
     let mut book = TableBook::new(&mut rows);
-    let mut rest = script;
-    while let Some((line, after)) = cut_at(rest, LINE_END) {
+    for line in script.split(|b| *b == LINE_END) {
         answer(out, &mut book, line)?;
-        rest = after;
     }
-    answer(out, &mut book, rest)
+    Ok(())
 }
 
 fn main(rt: HostRuntime) -> io::Result<()> {

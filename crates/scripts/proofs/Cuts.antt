@@ -1,6 +1,6 @@
 -- A text is cut at its first byte of a kind in one way, and where it has such a byte.
-use Rattle.std.proofs.Common.{◌≡◌, ℕ, suc, ◌+◌, ◌<◌, List, [], ◌∷◌, ◌++◌, length, get_or, take, drop, sym, refl, ap, ◌∙◌, subst, arith}
-use Rattle.std.proofs.lemmas.List.{length-append, get_or_at, get_or-take, length-take-le, take-append-drop, drop_more}
+use Rattle.std.proofs.Common.{◌≡◌, ℕ, suc, List, [], ◌∷◌, ◌++◌, length, get_or, sym, refl, ap, ◌∙◌, subst, arith}
+use Rattle.std.proofs.lemmas.List.{length-append, get_or_at}
 use Rattle.scripts.specs.Lines.{Lacks, Cut}
 
 -- a text that is cut at a byte has it
@@ -19,13 +19,3 @@ once x (y ∷ a) b (z ∷ c) d h k e =
 
 pub cut_once : {x : ℕ} {text a b c d : List ℕ} → Cut x text a b → Cut x text c d → (a ≡ c) × (b ≡ d)
 cut_once {x = x} {a = a} {b = b} {c = c} {d = d} p q = once x a b c d p.first q.first (sym p.whole ∙ q.whole)
-
--- the cut at the first place that has the byte
-pub cut_here : (x : ℕ) (text : List ℕ) (i : ℕ) → i < length text → get_or text i 0 ≡ x → ((k : ℕ) → k < i → get_or text k 0 ≡ x → ⊥) → Cut x text (take i text) (drop (i + 1) text)
-cut_here x text i lt here before =
-    record {
-      whole = sym (take-append-drop i text) ∙ ap (λ l. take i text ++ l) (drop_more text i 0 lt) ∙ ap (λ b. take i text ++ (b ∷ drop (i + 1) text)) here;
-      first = λ k h e.
-          let below : k < i = omega (arith, length-take-le i text (omega arith)) in
-          before k below (sym (get_or-take i text k 0 below) ∙ e);
-    }

@@ -1,7 +1,8 @@
 -- What a line of a script says.
-use Rattle.std.specs.Prelude.{◌≡◌, ℕ, ◌<◌, List, [], ◌∷◌, ◌++◌, length, codes, ◌≢◌, slice_index}
-use Rattle.scripts.specs.declared.line.Line.{Line}
-use Rattle.scripts.specs.declared.line.Line.TheVariants.{Silent, NotUnderstood, Name, Path, List as ListCall, Group, Ungroup, Open, Match}
+use Rattle.std.specs.Prelude.{◌≡◌, ℕ, ◌<◌, List, [], ◌∷◌, ◌++◌, length, codes, ◌≢◌, slice_index, Option, Some, None, Result, MatchResult}
+use Rattle.scripts.specs.declared.line.Call.{Call}
+use Rattle.scripts.specs.declared.line.Call.TheVariants.{Name, Path, List as ListCall, Group, Ungroup, Open, Match}
+use Rattle.scripts.specs.declared.line.NotUnderstood.{NotUnderstood}
 
 -- no byte of the text is this one
 abbrev pub Lacks : ℕ → List ℕ → Type 0
@@ -18,9 +19,7 @@ pub data Fields : List ℕ → List (List ℕ) → Type 0 where
   more : {text field rest : List ℕ} {fields : List (List ℕ)} → Cut 9 text field rest → Fields rest fields → Fields text (field ∷ fields)
 
 -- the word of a call and its fields
-abbrev pub parts : Line → List (List ℕ)
-parts Silent = []
-parts NotUnderstood = []
+abbrev pub parts : Call → List (List ℕ)
 parts (Name text) = codes "name" ∷ text.now ∷ []
 parts (Path text) = codes "path" ∷ text.now ∷ []
 parts (ListCall text) = codes "list" ∷ text.now ∷ []
@@ -30,12 +29,11 @@ parts (Open text) = codes "open" ∷ text.now ∷ []
 parts (Match name text) = codes "match" ∷ name.now ∷ text.now ∷ []
 
 -- a line of no bytes says nothing, and so does one that begins with `#`; a call is its word and its fields
-pub data Says : List ℕ → Line → Type 0 where
-  nothing : Says [] Silent
-  comment : {text : List ℕ} → Says (35 ∷ text) Silent
-  call : {text : List ℕ} {line : Line} → Fields text (parts line) → Says text line
+pub data Says : List ℕ → Option Call → Type 0 where
+  nothing : Says [] None
+  comment : {text : List ℕ} → Says (35 ∷ text) None
+  call : {text : List ℕ} {told : Call} → Fields text (parts told) → Says text (Some told)
 
--- the lawful line, or `NotUnderstood` where none is lawful
-pub data Understood (Lawful : Line → Type 0) : Line → Type 0 where
-  this : {line : Line} → Lawful line → Understood Lawful line
-  none : ((line : Line) → Lawful line → ⊥) → Understood Lawful NotUnderstood
+-- what is lawful, or `NotUnderstood` where nothing is
+abbrev pub Understood : {T : Type 0} → (T → Type 0) → Result T NotUnderstood → Type 0
+Understood {T} Lawful answer = MatchResult answer Lawful (λ refused. (told : T) → Lawful told → ⊥)

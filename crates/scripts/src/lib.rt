@@ -1,12 +1,12 @@
 //! Scripts: one call a line, its fields apart by a tab.
 #![tactic(auto)]
 
-ghost use Rattle.std.specs.Prelude.{◌≡◌, [], ◌∷◌, Decides, MatchOption};
-ghost use Rattle.scripts.specs.Lines.{Lacks, Cut, parts, Says, Understood};
+ghost use Rattle.std.specs.Prelude.{◌≡◌, [], ◌∷◌, MatchOption};
+ghost use Rattle.scripts.specs.Lines.{Lacks, Cut, Fields, parts, Says, Understood};
 
 mod line;
 
-pub use line::Line;
+pub use line::{Call, NotUnderstood};
 
 const TAB: u8 = 9;
 
@@ -14,67 +14,53 @@ const TAB: u8 = 9;
 pub fn cut_at(text: &[u8], byte: u8) -> Option<(&[u8], &[u8])>
     ensures { MatchOption result (Lacks byte text.now) (λ p. Cut byte text.now p.0.now p.1.now) }
 {
-    for (i, b) in text.iter().enumerate() {
-        if *b == byte {
-            return Some((&text[..i], &text[i + 1..]));
-        }
-    }
-    None
+    let place = text.iter().position(|b| *b == byte)?;
+    Some((&text[..place], &text[place + 1..]))
 }
 
-/// What a line says: a call and its fields, nothing, or what no script may say.
-pub fn read_line(line: &[u8]) -> Line<'_>
+/// What a line says: a call with its fields, or nothing where it is empty or a comment.
+pub fn read_line(line: &[u8]) -> Result<Option<Call<'_>>, NotUnderstood>
     ensures { Understood (Says line.now) result }
 {
-    if line.is_empty() || line[0] == b'#' {
-        return Line::Silent;
+    match line {
+        [] | [b'#', ..] => Ok(None),
+        _ => Ok(Some(read_call(line)?)),
     }
-    let Some((word, fields)) = cut_at(line, TAB) else {
-        return Line::NotUnderstood;
-    };
-    let Some((first, rest)) = cut_at(fields, TAB) else {
-        return one_field(word, fields);
-    };
-    match cut_at(rest, TAB) {
-        None => two_fields(word, first, rest),
-        Some(_) => Line::NotUnderstood,
+}
+
+// The call whose word and fields the line has.
+fn read_call(line: &[u8]) -> Result<Call<'_>, NotUnderstood>
+    ensures { Understood (λ call. Fields line.now (parts call)) result }
+{
+    let (word, fields) = cut_at(line, TAB).ok_or(NotUnderstood)?;
+    match cut_at(fields, TAB) {
+        None => one_field(word, fields),
+        Some((first, second)) if !second.contains(&TAB) => two_fields(word, first, second),
+        Some(_) => Err(NotUnderstood),
     }
 }
 
 // The call of that word with one field.
-fn one_field<'a>(word: &[u8], field: &'a [u8]) -> Line<'a>
-    ensures { Understood (λ line. parts line ≡ word.now ∷ field.now ∷ []) result }
+fn one_field<'a>(word: &[u8], field: &'a [u8]) -> Result<Call<'a>, NotUnderstood>
+    ensures { Understood (λ call. parts call ≡ word.now ∷ field.now ∷ []) result }
 {
-    if same(word, b"name") {
-        Line::Name(field)
-    } else if same(word, b"path") {
-        Line::Path(field)
-    } else if same(word, b"list") {
-        Line::List(field)
-    } else if same(word, b"ungroup") {
-        Line::Ungroup(field)
-    } else if same(word, b"open") {
-        Line::Open(field)
-    } else {
-        Line::NotUnderstood
+    match word {
+        b"name" => Ok(Call::Name(field)),
+        b"path" => Ok(Call::Path(field)),
+        b"list" => Ok(Call::List(field)),
+        b"ungroup" => Ok(Call::Ungroup(field)),
+        b"open" => Ok(Call::Open(field)),
+        _ => Err(NotUnderstood),
     }
 }
 
 // The call of that word with two fields.
-fn two_fields<'a>(word: &[u8], first: &'a [u8], second: &'a [u8]) -> Line<'a>
-    ensures { Understood (λ line. parts line ≡ word.now ∷ first.now ∷ second.now ∷ []) result }
+fn two_fields<'a>(word: &[u8], first: &'a [u8], second: &'a [u8]) -> Result<Call<'a>, NotUnderstood>
+    ensures { Understood (λ call. parts call ≡ word.now ∷ first.now ∷ second.now ∷ []) result }
 {
-    if same(word, b"group") {
-        Line::Group(first, second)
-    } else if same(word, b"match") {
-        Line::Match(first, second)
-    } else {
-        Line::NotUnderstood
+    match word {
+        b"group" => Ok(Call::Group(first, second)),
+        b"match" => Ok(Call::Match(first, second)),
+        _ => Err(NotUnderstood),
     }
-}
-
-fn same(a: &[u8], b: &[u8]) -> bool
-    ensures { Decides result (a.now ≡ b.now) }
-{
-    a == b
 }

@@ -1,10 +1,8 @@
 //! What a line of a script says.
 
-/// A line of a script: a call with its fields, a line to pass over, or one that is not understood.
-#[derive(Clone, Copy)]
-pub enum Line<'a> {
-    Silent,
-    NotUnderstood,
+/// A call with its fields.
+#[derive(Clone, Copy, Debug, PartialEq, Eq)]
+pub enum Call<'a> {
     Name(&'a [u8]),
     Path(&'a [u8]),
     List(&'a [u8]),
@@ -15,3 +13,7 @@ pub enum Line<'a> {
     /// A name and a list.
     Match(&'a [u8], &'a [u8]),
 }
+
+/// Why a line is refused: it is neither a call nor a line to pass over.
+#[derive(Clone, Copy, Debug, PartialEq, Eq)]
+pub struct NotUnderstood;
