@@ -1,7 +1,9 @@
 //! Texts of bounded length that are held by value, so that what holds one needs no memory of its own.
 #![tactic(auto)]
 
-ghost use Rattle.std.specs.Prelude.{◌≡◌, ◌<◌, ◌≤◌, length, MatchOption};
+ghost use Rattle.std.specs.Prelude.{◌≡◌, ◌<◌, ◌≤◌, length, nat_eq, MatchOption};
+ghost use Rattle.std.specs.Cmp.{on_equiv, on_per, partial_equiv_from_equiv};
+ghost use Rattle.std.specs.Cmp.Lexicographic.{pointwise, nat_list_eq_equiv};
 ghost use Rattle.texts.specs.Shown.{shown, padded};
 
 mod text;
@@ -28,4 +30,19 @@ impl<const N: usize> Text<N> {
     {
         &self.bytes[..self.len]
     }
+}
+
+/// Texts are equal where their bytes are.
+impl<const N: usize> PartialEq for Text<N> {
+    ghost eq = { λ s t. pointwise nat_eq (shown s) (shown t) };
+
+    ghost laws = { on_per shown (partial_equiv_from_equiv nat_list_eq_equiv) };
+
+    fn eq(&self, other: &Text<N>) -> bool {
+        self.as_bytes() == other.as_bytes()
+    }
+}
+
+impl<const N: usize> Eq for Text<N> {
+    ghost laws = { on_equiv shown nat_list_eq_equiv };
 }

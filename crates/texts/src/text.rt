@@ -2,7 +2,7 @@
 ghost use Rattle.std.specs.Prelude.{◌≤◌, length};
 
 // The toolchain's `ArrayVec` is not `Copy`, and its `ArrayString` takes only UTF-8.
-#[derive(Clone, Copy)]
+#[derive(Clone, Copy, Debug)]
 pub struct Text<const N: usize> {
     pub(crate) bytes: [u8; N],
     pub(crate) len: usize,
