@@ -16,7 +16,7 @@ use std::fmt::Display;
 use std::io::{BufWriter, Read, Write};
 use std::{fmt, io};
 
-const LINE_END: u8 = 10;
+const LINE_END: u8 = b'\n';
 
 // A name, told by the count of its parts.
 #[derive(Clone, Copy)]

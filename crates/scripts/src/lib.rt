@@ -8,7 +8,7 @@ mod line;
 
 pub use line::{Call, NotUnderstood};
 
-const TAB: u8 = 9;
+const TAB: u8 = b'\t';
 
 /// What stands before the first such byte and what after it, or none where the text lacks it.
 pub fn cut_at(text: &[u8], byte: u8) -> Option<(&[u8], &[u8])>
