@@ -1,7 +1,7 @@
 //! A text of at most `N` bytes.
 ghost use Rattle.std.specs.Prelude.{◌≤◌, length};
 
-// The toolchain's `ArrayVec` is not `Copy`, and its `ArrayString` takes only UTF-8.
+// No heap, and `Copy`: the toolchain's `ArrayVec` is not `Copy`, and its `ArrayString` takes only UTF-8.
 #[derive(Clone, Copy, Debug)]
 pub struct Text<const N: usize> {
     pub(crate) bytes: [u8; N],
