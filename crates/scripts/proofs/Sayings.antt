@@ -1,5 +1,5 @@
 -- What a line says, by its tabs and its word.
-use Rattle.std.proofs.Common.{◌≡◌, ℕ, ◌+◌, ◌<◌, ◌≤◌, List, [], ◌∷◌, length, get_or, None, Result, Ok, Err, sym, refl, ap, subst, arith}
+use Rattle.std.proofs.Common.{◌≡◌, ℕ, ◌+◌, ◌<◌, ◌≤◌, List, [], ◌∷◌, length, get_or, codes, None, Result, Ok, Err, sym, refl, ap, subst, arith}
 use Rattle.scripts.specs.declared.line.Call.{Call}
 use Rattle.scripts.specs.declared.line.Call.TheVariants.{Name, Path, List as ListCall, Group, Ungroup, Open, Match}
 use Rattle.scripts.specs.declared.line.NotUnderstood.{NotUnderstood}
@@ -56,3 +56,22 @@ too_many one two tab told fs =
     let x = after_cut one fs in
     let y = after_cut two x.2 in
     tab (sole_field (omega (arith, (few told).1, x.1, y.1)) y.2)
+
+-- a word that is no call's
+pub no_call : (word field : List ℕ) → (word ≡ codes "name" → ⊥) → (word ≡ codes "path" → ⊥) → (word ≡ codes "list" → ⊥) → (word ≡ codes "ungroup" → ⊥) → (word ≡ codes "open" → ⊥) → (told : Call) → parts told ≡ word ∷ field ∷ [] → ⊥
+no_call word field name path list ungroup open-word (Name text) is = name (cc)
+no_call word field name path list ungroup open-word (Path text) is = path (cc)
+no_call word field name path list ungroup open-word (ListCall text) is = list (cc)
+no_call word field name path list ungroup open-word (Group a b) is = omega (arith, ap length is)
+no_call word field name path list ungroup open-word (Ungroup text) is = ungroup (cc)
+no_call word field name path list ungroup open-word (Open text) is = open-word (cc)
+no_call word field name path list ungroup open-word (Match a b) is = omega (arith, ap length is)
+
+pub no_call_of_two : (word a b : List ℕ) → (word ≡ codes "group" → ⊥) → (word ≡ codes "match" → ⊥) → (told : Call) → parts told ≡ word ∷ a ∷ b ∷ [] → ⊥
+no_call_of_two word a b group match (Name text) is = omega (arith, ap length is)
+no_call_of_two word a b group match (Path text) is = omega (arith, ap length is)
+no_call_of_two word a b group match (ListCall text) is = omega (arith, ap length is)
+no_call_of_two word a b group match (Group x y) is = group (cc)
+no_call_of_two word a b group match (Ungroup text) is = omega (arith, ap length is)
+no_call_of_two word a b group match (Open text) is = omega (arith, ap length is)
+no_call_of_two word a b group match (Match x y) is = match (cc)
