@@ -2,7 +2,10 @@
 use Rattle.std.proofs.Common.{◌≡◌, ℕ, zero, suc, ◌+◌, ◌-◌, ◌<◌, ◌≤◌, Bool, true, false, eqb, List, [], ◌∷◌, ◌++◌, length, get_or, take, drop, sym, refl, ap, ◌∙◌, subst, arith, length-drop, take-append-drop, eqb-true}
 use Rattle.std.proofs.lemmas.List.{drop_more, drop_all, drop-drop, take_more, length-take-le, get_or-drop}
 use Rattle.std.specs.List.{AllByRecursion}
-use Rattle.lists.specs.Bytes.{part, Past, blanks}
+use Rattle.std.proofs.lemmas.Bool.{cond_both}
+use Rattle.std.proofs.lemmas.List.Sums.{prefix_len-le-length}
+use Rattle.std.specs.List.{prefix_len}
+use Rattle.lists.specs.Bytes.{part, Past, Run, blanks}
 
 pub part_length : (text : List ℕ) (i j : ℕ) → i ≤ j → j ≤ length text → length (part text i j) ≡ j - i
 part_length text i j le within = length-take-le (j - i) (drop i text) (omega (arith, length-drop i text))
@@ -62,3 +65,22 @@ all_blanks (b ∷ t) h = λ i. eqb-true b 32 h.0 i ∷ all_blanks t h.1 i
 pub every_append : (P : ℕ → Type 0) (s t : List ℕ) → AllByRecursion P (s ++ t) → AllByRecursion P s
 every_append P [] t h = tt
 every_append P (b ∷ s) t h = (h.0, every_append P s t h.1)
+
+-- the bytes of a kind that a text begins with are a run
+pub prefix_bytes : (p : ℕ → Bool) (t : List ℕ) → AllByRecursion (λ b. p b ≡ true) (take (prefix_len p t) t)
+prefix_bytes p [] = tt
+prefix_bytes p (b ∷ t) = cond_both (p b) _ _ (λ n. AllByRecursion (λ x. p x ≡ true) (take n (b ∷ t))) (λ is. let more : 1 + prefix_len p t ≡ suc (prefix_len p t) = omega arith in rw more (is, prefix_bytes p t)) (λ _. tt)
+
+prefix_past : (p : ℕ → Bool) (t : List ℕ) → Past p (drop (prefix_len p t) t)
+prefix_past p [] = tt
+prefix_past p (b ∷ t) = cond_both (p b) _ _ (λ n. Past p (drop n (b ∷ t))) (λ _. let more : 1 + prefix_len p t ≡ suc (prefix_len p t) = omega arith in rw more (prefix_past p t)) (λ other. other)
+
+pub prefix_run : (p : ℕ → Bool) (text : List ℕ) (i n : ℕ) → i ≤ length text → prefix_len p (drop i text) ≡ n → Run p text i (i + n)
+prefix_run p text i n le e =
+    let size : i + n - i ≡ prefix_len p (drop i text) = omega arith in
+    record {
+      forward = omega arith;
+      within = omega (arith, prefix_len-le-length p (drop i text), length-drop i text);
+      bytes = subst (λ k. AllByRecursion (λ b. p b ≡ true) (take k (drop i text))) (sym size) (prefix_bytes p (drop i text));
+      past = subst (Past p) (ap (λ k. drop k (drop i text)) e ∙ drop-drop n i text) (prefix_past p (drop i text));
+    }

@@ -1,5 +1,5 @@
 -- Each fault of the check, from what the reader found.
-use Rattle.std.proofs.Common.{◌≡◌, ℕ, zero, suc, ◌+◌, ◌-◌, ◌<◌, ◌≤◌, Bool, true, false, cond, ◌||◌, eqb, ltb, List, [], ◌∷◌, ◌++◌, length, get_or, take, drop, Some, None, Ok, Err, Option, Result, sym, refl, ap, ◌∙◌, subst, ⊎_elim, arith, le-ltb, lt-ltb, eqb-true, MatchResult}
+use Rattle.std.proofs.Common.{◌≡◌, ℕ, zero, suc, ◌+◌, ◌-◌, ◌<◌, ◌≤◌, Bool, true, false, cond, ◌||◌, eqb, ltb, List, [], ◌∷◌, ◌++◌, length, get_or, take, drop, Some, None, Err, Option, sym, refl, ap, ◌∙◌, subst, ⊎_elim, arith, le-ltb, lt-ltb, eqb-true}
 use Rattle.std.proofs.lemmas.List.{take_all, take_rest}
 use Rattle.std.proofs.lemmas.List.Edits.{get_or-between}
 use Rattle.std.proofs.lemmas.Bool.{cond-true, cond-false, cases_Bool}
@@ -16,7 +16,7 @@ use Rattle.lists.specs.declared.token.Token.{Token}
 use Rattle.lists.specs.declared.token.Token.TheVariants.{Word as Token-Word, Dot, At as Token-At, Plus, Any, Open, Close, Star, Bar, Group}
 use Rattle.lists.specs.Lexemes.{sign, Gap, is_blank, is_closing, TokenAt, NoSign, TokenFault, bad_byte, long_word, no_name, long_name, no_brace}
 use Rattle.lists.specs.Faults.{unmatched, kind_here, Slip, unclosed}
-use Rattle.lists.specs.Machine.{Closes, NotBlank, At, within, sign_step, State, out, word, brace, name, braced, item, lift, signed, byte_step, reads, start, Stands, Leads, Enters, ListRead, ItemRead}
+use Rattle.lists.specs.Machine.{Closes, NotBlank, BracketOpens, At, within, sign_step, State, out, word, brace, name, braced, item, lift, signed, byte_step, reads, start, Stands, Leads, Enters, ListRead, ItemRead}
 use Rattle.lists.proofs.Machine.{Lands, reads_append, reads_blanks, out_sign, out_brace, out_reads_word, brace_reads_name, blank_ungrouped, sign_cases}
 use Rattle.lists.proofs.Viable.{reads_item, closes_item}
 use Rattle.lists.proofs.Segments.{part_length, part_join, part_none, part_one, part_more, past_at, every_append}
@@ -265,32 +265,45 @@ module _ (text : List ℕ) (marked : NotBlank text) where
     stands = refl;
   }
 
+  -- what a reader that has passed an open bracket stands behind
+  pub bracket_opens : (from place end d : ℕ) (due : Bool) → d ≤ 16 → Leads text 0 from (within 0 true) (within d due) → TokenAt text from place end open_bracket → BracketOpens text place end d
+  bracket_opens from place end d due few p t =
+      let b = token_byte from place end open_bracket tt t in
+      record { marked = marked; shallow = few; inside = b.0; bracket = b.1.0; behind = omega (arith, t.some, part_length text place end (omega (arith, t.some)) t.within, one_byte t.shows tt); enters = (due, leads_join p (gap_leads text from place (within d due) t.gap)) }
+    where
+      one_byte : {u rest : List ℕ} {x : Sign} → Shows u rest x → Mark x → length u ≡ 1
+      one_byte (shows_word h p) m = absurd m
+      one_byte (shows_mark is) m = refl
+      one_byte (shows_group x y h) m = absurd m
+
   -- the end of the text within a bracket
-  pub unclosed_slip : (place d : ℕ) → place < length text → get_or text place 0 ≡ 40 → d < 16 → Enters text place d → ((e : ℕ) → e ≤ d + 1 → Leads text (place + 1) (length text) (within e true) (within e false)) → Slip text (fault BracketUnmatched place)
-  unclosed_slip place d lt is few (due, p) r =
-      let inner = r 0 (omega arith) in
+  pub unclosed_slip : (place end d : ℕ) → place < length text → get_or text place 0 ≡ 40 → d < 16 → Enters text place d → ListRead text (place + 1) (d + 1) false end → Slip text (fault BracketUnmatched place)
+  unclosed_slip place end d lt is few (due, p) (at_end, r) =
+      let to_end : (e : ℕ) → e ≤ d + 1 → Leads text (place + 1) (length text) (within e true) (within e false) = λ e le. subst (λ k. Leads text (place + 1) k (within e true) (within e false)) at_end (r e le) in
+      let inner = to_end 0 (omega arith) in
       let i = reads_item (drop (place + 1) text) (subst (λ o. Lands o (within 0 false)) (sym (ap (reads start) (sym (take_rest text (place + 1))) ∙ inner.reading)) (stands_lands inner.state (within 0 false) _ inner.stands)) in
-      let w = leads_join (leads_join p (bracket_leads place d due lt is few)) (r (d + 1) (omega arith)) in
+      let w = leads_join (leads_join p (bracket_leads place d due lt is few)) (to_end (d + 1) (omega arith)) in
       let front : length text - 0 ≡ length text = omega arith in
       let whole : reads start text ≡ Some w.state = ap (reads start) (sym (take_all (length text) text (omega arith)) ∙ ap (λ n. take n text) (sym front)) ∙ w.reading in
       unclosed (record { within = lt; bracket = is; inside = i; open_brackets = d; closes = item_list (closes_item text w.state (d + 1) whole (stands_lands w.state (within (d + 1) false) _ w.stands)) })
 
   -- a bracket that closes is an item
-  pub bracket_read : (place end d : ℕ) → place < length text → get_or text place 0 ≡ 40 → d < 16 → ListRead text (place + 1) (d + 1) (Some end) → ItemRead text place end d
+  pub bracket_read : (place end d : ℕ) → place < length text → get_or text place 0 ≡ 40 → d < 16 → ListRead text (place + 1) (d + 1) true end → ItemRead text place end d
   bracket_read place end d lt is few r = (omega (arith, (r.1 0 (omega arith)).forward), λ e due le. leads_join (bracket_leads place e due lt is (omega arith)) (r.1 e (omega arith)))
 
   -- what a closing bracket leads to
   close_step : (e : ℕ) → sign_step (within (e + 1) false) close_bracket ≡ Some (within e false)
   close_step e = let back : e + 1 - 1 ≡ e = omega arith in cond-true _ _ _ (lt-ltb 0 (e + 1) (omega arith)) ∙ ap (λ n. Some (within n false)) back
 
-  pub close_read : (from at_place place end d : ℕ) (due : Bool) (r : Result (Option ℕ) Fault) → Leads text 0 from (within 0 true) (within d true) → ((e : ℕ) → e ≤ d → Leads text from at_place (within e true) (within e due)) → TokenAt text at_place place end close_bracket → Closes place end d due r → MatchResult r (ListRead text from d) (Slip text)
-  close_read from at_place place end d due (Ok n) p on t (some, (had, is)) =
-      subst (ListRead text from d) (sym is)
+  pub close_read : (from at_place place end d : ℕ) (due : Bool) → ((e : ℕ) → e ≤ d → Leads text from at_place (within e true) (within e due)) → TokenAt text at_place place end close_bracket → 0 < d → due ≡ false → ListRead text from d true end
+  close_read from at_place place end d due on t some had =
       (some, λ e lt. leads_join (subst (λ x. Leads text from at_place (within (e + 1) true) (within (e + 1) x)) had (on (e + 1) (omega arith))) (token_leads text at_place place end close_bracket (within (e + 1) false) (within e false) t (close_step e)))
-  close_read from at_place place end d due (Err f) p on t c =
+
+  pub close_refused : (from place end d : ℕ) (due : Bool) (f : Fault) → Leads text 0 from (within 0 true) (within d due) → TokenAt text from place end close_bracket → Closes place d due (Err f) → Slip text f
+  close_refused from place end d due f p t c =
       ⊎_elim
-      (λ (none, is). subst (Slip text) (sym is) (unmatched_slip at_place place end due (subst (λ n. Leads text 0 at_place (within 0 true) (within n due)) none (leads_join p (on d (omega arith)))) t))
-      (λ (some, (is_due, is)). subst (Slip text) (sym is) (close_slip at_place place end d some (subst (λ x. Leads text 0 at_place (within 0 true) (within d x)) is_due (leads_join p (on d (omega arith)))) t))
+      (λ (none, is). subst (Slip text) (sym is) (unmatched_slip from place end due (subst (λ n. Leads text 0 from (within 0 true) (within n due)) none p) t))
+      (λ (some, (is_due, is)). subst (Slip text) (sym is) (close_slip from place end d some (subst (λ x. Leads text 0 from (within 0 true) (within d x)) is_due p) t))
       c
 
 -- a token that is an item

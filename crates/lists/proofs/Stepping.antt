@@ -1,16 +1,18 @@
 -- A step of a walk over tokens.
-use Rattle.std.proofs.Common.{◌≡◌, ℕ, ◌-◌, ◌<◌, ◌≤◌, Bool, true, false, List, [], ◌∷◌, length, IfSome, Some, None, Option, sym, refl, ap, ◌∙◌, subst, arith}
+use Rattle.std.proofs.Common.{◌≡◌, ℕ, ◌-◌, ◌<◌, ◌≤◌, Bool, true, false, List, [], ◌∷◌, length, IfSome, Some, None, Ok, Err, Option, Result, sym, refl, ap, ◌∙◌, subst, arith}
 use borrow.Author.Tests.{clash}
 use Rattle.std.specs.List.{AllByRecursion}
+use Rattle.std.specs.Result.{result_ok}
+use Rattle.faults.specs.declared.fault.Fault.{Fault}
 use Rattle.lists.specs.declared.token.Lexeme.{Lexeme}
 use Rattle.lists.specs.Trees.{Sign, atom, group, open_bracket, close_bracket, star, bar}
 use Rattle.lists.specs.Bytes.{IsGroupName}
 use Rattle.lists.specs.Tokens.{Shows, shows_word, shows_mark, shows_group}
-use Rattle.lists.specs.Lexemes.{TokenAt, Next, is_blank}
+use Rattle.lists.specs.Lexemes.{TokenAt, Passes, is_blank}
 use Rattle.lists.specs.Placed.{Placed, none, more, Walks}
 use Rattle.lists.proofs.Machine.{sign_cases}
 use Rattle.lists.proofs.Segments.{part_none, past_end}
-use Rattle.lists.proofs.Placing.{token_unique, token_inside, placed_unique}
+use Rattle.lists.proofs.Placing.{token_unique, token_inside, placed_unique, fault_apart}
 
 -- whether a sign is a group's
 abbrev is_group : Sign → Bool
@@ -40,11 +42,6 @@ end_left text =
     let n = length text in
     none (record { forward = omega arith; within = omega arith; bytes = subst (AllByRecursion (λ b. is_blank b ≡ true)) (sym (part_none text n)) tt; past = past_end is_blank text n (omega arith) })
 
--- the place that a step leads to: behind the token, or the text's end
-abbrev pub stop : List ℕ → Option Lexeme → ℕ
-stop text None = length text
-stop text (Some l) = l.end
-
 -- what a step does, and that the rest can be walked
 pub record Stepped (text : List ℕ) (at : ℕ) (given : Option Lexeme) (at' : ℕ) : Type 0 where
   pub walks : Walks text at given text at'
@@ -52,26 +49,33 @@ pub record Stepped (text : List ℕ) (at : ℕ) (given : Option Lexeme) (at' : �
   pub inside : at' ≤ length text
   pub falls : IfSome given (λ _. Unit {0} × Unit {0} × (length text - at' < length text - at))
 
-pub stepped : (text : List ℕ) (at : ℕ) (given : Option Lexeme) (at' : ℕ) → Next text at given → stop text given ≡ at' → Stepped text at given at'
-stepped text at given at' next here = subst (Stepped text at given) here (steps given next)
-  where
-    steps : (given : Option Lexeme) → Next text at given → Stepped text at given (stop text given)
-    steps None g = record {
-      walks = record { kept = refl; found = g; token = λ ps r. placed_unique text at r (none g); group = tt; end = refl; onward = tt };
-      on = λ r. ([], end_left text);
-      inside = omega arith;
-      falls = tt;
-    }
-    steps (Some l) t = record {
-      walks = record {
-        kept = refl;
-        found = t;
-        token = λ ps r. rest_left text at t r;
-        group = shown_name t.shows;
-        end = refl;
-        onward = (omega (arith, t.gap.forward, t.some), t.within);
-      };
-      on = λ r. let left = rest_left text at t r.1 in (left.0, left.1.1);
-      inside = t.within;
-      falls = (tt, tt, omega (arith, t.gap.forward, t.some, t.within));
-    }
+stepped : (text : List ℕ) (at : ℕ) (given : Option Lexeme) (at' : ℕ) → Passes text at at' (Ok given) → Stepped text at given at'
+stepped text at None at' (g, end) = record {
+  walks = record { kept = refl; found = g; token = λ ps r. placed_unique text at r (none g); group = tt; end = end; onward = tt };
+  on = λ r. ([], subst (λ k. Placed text k []) (sym end) (end_left text));
+  inside = omega arith;
+  falls = tt;
+}
+stepped text at (Some l) at' (t, end) = record {
+  walks = record {
+    kept = refl;
+    found = t;
+    token = λ ps r. let left = rest_left text at t r in (left.0, (left.1.0, subst (λ k. Placed text k left.0) (sym end) left.1.1));
+    group = shown_name t.shows;
+    end = end;
+    onward = (omega (arith, t.gap.forward, t.some), omega (arith, t.within));
+  };
+  on = λ r. let left = rest_left text at t r.1 in (left.0, subst (λ k. Placed text k left.0) (sym end) left.1.1);
+  inside = omega (arith, t.within);
+  falls = (tt, tt, omega (arith, t.gap.forward, t.some, t.within));
+}
+
+-- the step that a reader took
+pub passed : (text : List ℕ) (at : ℕ) (r : Result (Option Lexeme) Fault) (given : Option Lexeme) (at' : ℕ) → Passes text at at' r → Some given ≡ result_ok r → Stepped text at given at'
+passed text at (Ok o) given at' p e = stepped text at given at' (let same : o ≡ given = cc in subst (λ x. Passes text at at' (Ok x)) same p)
+passed text at (Err f) given at' p e = let z : ◌≡◌ {A = ℕ} 0 1 = cc in absurd (omega arith)
+
+-- where tokens go on to the text's end, a reader takes a step
+pub passes_some : (text : List ℕ) (at : ℕ) (r : Result (Option Lexeme) Fault) (at' : ℕ) → (ps : List (ℕ × Sign)) × Placed text at ps → Passes text at at' r → None ≡ result_ok r → ⊥
+passes_some text at (Ok o) at' row p e = let z : ◌≡◌ {A = ℕ} 0 1 = cc in omega arith
+passes_some text at (Err f) at' row p e = fault_apart text at row.1 p.0

@@ -1,5 +1,5 @@
 -- What the check of a whole text answers.
-use Rattle.std.proofs.Common.{◌≡◌, ℕ, ◌-◌, ◌<◌, ◌≤◌, false, List, [], length, get_or, Some, None, Option, sym, ap, ◌∙◌, subst, arith, eq-eqb}
+use Rattle.std.proofs.Common.{◌≡◌, ℕ, ◌-◌, ◌<◌, ◌≤◌, Bool, true, false, List, [], length, get_or, sym, ap, ◌∙◌, subst, arith, eq-eqb}
 use borrow.Author.Tests.{clash}
 use lib.ListN.{length-replicate}
 use Rattle.std.proofs.lemmas.List.{take_all, get_or-replicate}
@@ -8,7 +8,7 @@ use Rattle.lists.specs.Bytes.{part}
 use Rattle.lists.specs.Tokens.{Spells, ends}
 use Rattle.lists.specs.Texts.{ListText}
 use Rattle.lists.specs.Lexemes.{Gap, is_blank}
-use Rattle.lists.specs.Machine.{NotBlank, within, reads, start, ListRead}
+use Rattle.lists.specs.Machine.{NotBlank, within, Leads, reads, start, ListRead}
 use Rattle.lists.proofs.Machine.{Lands}
 use Rattle.lists.proofs.Viable.{reads_item}
 use Rattle.lists.proofs.Segments.{past_at}
@@ -30,8 +30,8 @@ module _ (text : List ℕ) where
   pub blank_list : (k : ℕ) → Gap text 0 k → length text ≤ k → ListText text
   blank_list k g le = record { tree = empty; reads = subst (λ t. Spells t []) (sym (gap_blanks text 0 k g) ∙ whole k le) (ends (k - 0)); shallow = omega arith }
 
-  pub read_list : (n : Option ℕ) → ListRead text 0 0 n → ListText text
-  read_list (Some end) r = absurd (omega (arith, r.0))
-  read_list None r =
-      let l = r 0 (omega arith) in
+  pub read_list : (closed : Bool) (end : ℕ) → ListRead text 0 0 closed end → ListText text
+  read_list true end r = absurd (omega (arith, r.0))
+  read_list false end (at_end, r) =
+      let l = subst (λ k. Leads text 0 k (within 0 true) (within 0 false)) at_end (r 0 (omega arith)) in
       item_list (reads_item text (subst (λ o. Lands o (within 0 false)) (sym (ap (reads start) (sym (whole (length text) (omega arith))) ∙ l.reading)) (stands_lands l.state (within 0 false) _ l.stands)))

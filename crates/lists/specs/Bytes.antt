@@ -31,6 +31,10 @@ Past p (b ∷ bs) = p b ≡ false
 abbrev pub part : List ℕ → ℕ → ℕ → List ℕ
 part text i j = take (j - i) (drop i text)
 
+-- a test tells of each byte whether it is of a kind
+abbrev pub Tells : (ℕ → Bool → Type 0) → (ℕ → Bool) → Type 0
+Tells answers p = (b : ℕ) (answer : Bool) → answers b answer → answer ≡ p b
+
 -- all the bytes of the text from a place on that are of a kind, up to the first that is not
 pub record Run (p : ℕ → Bool) (text : List ℕ) (i j : ℕ) : Type 0 where
   pub forward : i ≤ j

@@ -1,6 +1,5 @@
 pub mod Trees
 pub mod Bytes
-pub mod Classes
 pub mod Machine
 pub mod Tokens
 pub mod Lexemes

@@ -1,6 +1,6 @@
 -- How far a list text can be read from left to right. The inner functions of the check are held to this machine;
 -- what it means is in the promise of the check itself, which speaks of texts and trees alone.
-use Rattle.std.specs.Prelude.{◌≡◌, ℕ, ◌+◌, ◌-◌, ◌<◌, ◌≤◌, Bool, true, false, cond, ◌⊎◌, List, length, drop, Some, None, Ok, Err, Option, Result, ◌==◌, ◌≢◌, nat_lt}
+use Rattle.std.specs.Prelude.{◌≡◌, ℕ, ◌+◌, ◌-◌, ◌<◌, ◌≤◌, Bool, true, false, cond, ◌⊎◌, List, length, drop, Some, None, Ok, Err, Option, Result, MatchResult, slice_index, ◌==◌, ◌≢◌, nat_lt}
 use Rattle.faults.specs.declared.fault.Fault.{Fault}
 use Rattle.faults.specs.declared.kind.Kind.TheVariants.{ItemMissing, BracketUnmatched}
 use Rattle.names.specs.Faults.{fault}
@@ -85,21 +85,40 @@ pub record Leads (text : List ℕ) (i j : ℕ) (a c : At) : Type 0 where
 abbrev pub Enters : List ℕ → ℕ → ℕ → Type 0
 Enters text at d = (due : Bool) × Leads text 0 at (within 0 true) (within d due)
 
--- A list is read from a place on, at any depth up to d: up to and with the bracket that closes it, or to the
--- text's end.
-abbrev pub ListRead : List ℕ → ℕ → ℕ → Option ℕ → Type 0
-ListRead text from d None = (e : ℕ) → e ≤ d → Leads text from (length text) (within e true) (within e false)
-ListRead text from d (Some end) = (0 < d) × ((e : ℕ) → e < d → Leads text from end (within (e + 1) true) (within e false))
+-- some byte of the text is not blank
+abbrev pub NotBlank : List ℕ → Type 0
+NotBlank text = (n : ℕ) → text ≢ blanks n
+
+-- a list begins at a place, within d brackets
+pub record ListBegins (text : List ℕ) (at d : ℕ) : Type 0 where
+  pub marked : NotBlank text
+  pub shallow : d ≤ 16
+  pub leads : Leads text 0 at (within 0 true) (within d true)
+
+-- a bracket opens at a place, within d others, and a reader stands behind it
+pub record BracketOpens (text : List ℕ) (place at d : ℕ) : Type 0 where
+  pub marked : NotBlank text
+  pub shallow : d ≤ 16
+  pub inside : place < length text
+  pub bracket : slice_index text place ≡ 40
+  pub behind : at ≡ place + 1
+  pub enters : Enters text place d
+
+-- A list is read from one place to another, at any depth up to d: up to and with the bracket that closes it, or to
+-- the text's end.
+abbrev pub ListRead : List ℕ → ℕ → ℕ → Bool → ℕ → Type 0
+ListRead text from d false end = (end ≡ length text) × ((e : ℕ) → e ≤ d → Leads text from end (within e true) (within e false))
+ListRead text from d true end = (0 < d) × ((e : ℕ) → e < d → Leads text from end (within (e + 1) true) (within e false))
 
 -- an item is read from one place to another, at any depth up to d
 abbrev pub ItemRead : List ℕ → ℕ → ℕ → ℕ → Type 0
 ItemRead text from end d = (from < end) × ((e : ℕ) (due : Bool) → e ≤ d → Leads text from end (within e due) (within e false))
 
--- some byte of the text is not blank
-abbrev pub NotBlank : List ℕ → Type 0
-NotBlank text = (n : ℕ) → text ≢ blanks n
+-- whether an item stands before a place, where one is due or not
+abbrev pub ItemStands : ℕ → Bool → Result (Unit {0}) Fault → Type 0
+ItemStands place due result = MatchResult result (λ _. due ≡ false) (λ f. (due ≡ true) × (f ≡ fault ItemMissing place))
 
--- a `)`: without an open bracket it is unmatched; where an item is due, that is missing; else the bracket ends
-abbrev pub Closes : ℕ → ℕ → ℕ → Bool → Result (Option ℕ) Fault → Type 0
-Closes place end d due (Ok n) = (0 < d) × ((due ≡ false) × (n ≡ Some end))
-Closes place end d due (Err f) = ((d ≡ 0) × (f ≡ fault BracketUnmatched place)) ⊎ ((0 < d) × ((due ≡ true) × (f ≡ fault ItemMissing place)))
+-- a `)`: without an open bracket it is unmatched, and an item stands before it
+abbrev pub Closes : ℕ → ℕ → Bool → Result (Unit {0}) Fault → Type 0
+Closes place d due (Ok n) = (0 < d) × (due ≡ false)
+Closes place d due (Err f) = ((d ≡ 0) × (f ≡ fault BracketUnmatched place)) ⊎ ((0 < d) × ((due ≡ true) × (f ≡ fault ItemMissing place)))

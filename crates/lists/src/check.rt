@@ -1,13 +1,13 @@
 //! The check that a text is a list: brackets recurse, and everything else is read from left to right.
-ghost use Rattle.std.specs.Prelude.{◌≡◌, ◌<◌, ◌≤◌, true, length, MatchResult, slice_index};
-ghost use Rattle.lists.specs.Machine.{Closes, NotBlank, within, Leads, Enters, ListRead, ItemRead};
+ghost use Rattle.std.specs.Prelude.{◌≡◌, true, MatchResult};
+ghost use Rattle.lists.specs.Machine.{ListBegins, BracketOpens, ListRead, ItemRead, ItemStands, Closes};
 ghost use Rattle.lists.specs.Texts.{ListText};
 ghost use Rattle.lists.specs.Faults.{Slip};
 
 use super::MAX_DEPTH;
-use super::class::{Class, run_end};
-use super::reader::next_token;
-use super::token::{Lexeme, Token};
+use super::class::{is_blank, run_end};
+use super::reader::Tokens;
+use super::token::Token;
 use faults::fault::Fault;
 use faults::kind::Kind;
 
@@ -15,84 +15,75 @@ use faults::kind::Kind;
 pub(crate) fn check_list(text: &[u8]) -> Result<(), Fault>
     ensures { MatchResult result (λ _. ListText text.now) (λ f. Slip text.now f) }
 {
-    if run_end(text, 0, Class::Blank) == text.len() {
+    if run_end(text, 0, is_blank) == text.len() {
         return Ok(());
     }
-    read_list(text, 0, 0)?;
+    read_list(&mut Tokens::new(text), 0)?;
     Ok(())
 }
 
-// Reads a list that stands within `depth` brackets. Answers the place after the bracket that closes it, or none
-// where the text ends.
+// Reads a list that stands within `depth` brackets. Answers whether a bracket closes it, or else the text's end.
 #[cycle(read_bracket_read_list)]
-fn read_list(text: &[u8], start: usize, depth: usize) -> Result<Option<usize>, Fault>
-    requires marked { NotBlank text.now }
-    requires deep { depth ≤ 16 }
-    requires enters { Leads text.now 0 start (within 0 true) (within depth true) }
-    ensures { MatchResult result (λ n. ListRead text.now start depth n) (λ f. Slip text.now f) }
+fn read_list(tokens: &mut Tokens<'_>, depth: usize) -> Result<bool, Fault>
+    requires { ListBegins tokens.old.text.now tokens.old.at depth }
+    ensures kept { tokens.new.text.now ≡ tokens.old.text.now }
+    ensures read { MatchResult result (λ closed. ListRead tokens.old.text.now tokens.old.at depth closed tokens.new.at) (λ f. Slip tokens.old.text.now f) }
 {
-    let mut at = start;
     let mut due = true;
-    while let Some(lexeme) = next_token(text, at)? {
+    while let Some(lexeme) = tokens.next_token()? {
         match lexeme.token {
             Token::Open => {
-                at = read_bracket(text, lexeme.place, depth)?;
+                read_bracket(tokens, lexeme.place, depth)?;
                 due = false;
             }
-            Token::Close => return close(lexeme, depth, due),
-            Token::Star => {
-                if due {
-                    return Err(Fault::at(Kind::ItemMissing, lexeme.place));
-                }
-                at = lexeme.end;
+            Token::Close => {
+                close(lexeme.place, depth, due)?;
+                return Ok(true);
             }
+            Token::Star => after_item(lexeme.place, due)?,
             Token::Bar => {
-                if due {
-                    return Err(Fault::at(Kind::ItemMissing, lexeme.place));
-                }
-                at = lexeme.end;
+                after_item(lexeme.place, due)?;
                 due = true;
             }
-            _ => {
-                at = lexeme.end;
-                due = false;
-            }
+            _ => due = false,
         }
     }
-    if due {
-        return Err(Fault::at(Kind::ItemMissing, text.len()));
-    }
-    Ok(None)
+    after_item(tokens.text.len(), due)?;
+    Ok(false)
 }
 
-// Leaves the bracket that a `)` closes.
-fn close(lexeme: Lexeme<'_>, depth: usize, due: bool) -> Result<Option<usize>, Fault>
-    ensures { Closes lexeme.entry.place lexeme.entry.end depth due result }
-{
-    if depth == 0 {
-        Err(Fault::at(Kind::BracketUnmatched, lexeme.place))
-    } else if due {
-        Err(Fault::at(Kind::ItemMissing, lexeme.place))
-    } else {
-        Ok(Some(lexeme.end))
-    }
-}
-
-// Reads the bracket at a place, and answers the place after it.
+// Reads the bracket at a place, which the reader has just passed.
 #[cycle(read_bracket_read_list)]
-fn read_bracket(text: &[u8], place: usize, depth: usize) -> Result<usize, Fault>
-    requires marked { NotBlank text.now }
-    requires deep { depth ≤ 16 }
-    requires inside { place < length text.now }
-    requires bracket { slice_index text.now place ≡ 40 }
-    requires enters { Enters text.now place depth }
-    ensures { MatchResult result (λ end. ItemRead text.now place end depth) (λ f. Slip text.now f) }
+fn read_bracket(tokens: &mut Tokens<'_>, place: usize, depth: usize) -> Result<(), Fault>
+    requires { BracketOpens tokens.old.text.now place tokens.old.at depth }
+    ensures kept { tokens.new.text.now ≡ tokens.old.text.now }
+    ensures read { MatchResult result (λ _. ItemRead tokens.old.text.now place tokens.new.at depth) (λ f. Slip tokens.old.text.now f) }
 {
     if depth == MAX_DEPTH {
         return Err(Fault::at(Kind::BracketsTooDeep, place));
     }
-    match read_list(text, place + 1, depth + 1)? {
-        Some(end) => Ok(end),
-        None => Err(Fault::at(Kind::BracketUnmatched, place)),
+    if !read_list(tokens, depth + 1)? {
+        return Err(Fault::at(Kind::BracketUnmatched, place));
     }
+    Ok(())
+}
+
+// Leaves the bracket that a `)` closes.
+fn close(place: usize, depth: usize, due: bool) -> Result<(), Fault>
+    ensures { Closes place depth due result }
+{
+    if depth == 0 {
+        return Err(Fault::at(Kind::BracketUnmatched, place));
+    }
+    after_item(place, due)
+}
+
+// Whether an item stands before a place, and none is due there.
+fn after_item(place: usize, due: bool) -> Result<(), Fault>
+    ensures { ItemStands place due result }
+{
+    if due {
+        return Err(Fault::at(Kind::ItemMissing, place));
+    }
+    Ok(())
 }

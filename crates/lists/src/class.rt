@@ -1,44 +1,32 @@
 //! Runs of bytes of one kind.
-ghost use Rattle.std.specs.Prelude.{◌≡◌, ◌≤◌, length};
-ghost use Rattle.lists.specs.Bytes.{group_byte, Run};
-ghost use Rattle.lists.specs.Classes.{holds};
+ghost use Rattle.std.specs.Prelude.{◌≡◌, ℕ, ◌≤◌, Bool, length};
+ghost use Rattle.lists.specs.Bytes.{group_byte, Tells, Run};
+ghost use Rattle.lists.specs.Lexemes.{is_blank};
 
 use names::word::is_word_byte;
 
-/// Bytes that come in runs: blanks, the bytes of words, and those of group names.
-#[derive(Clone, Copy)]
-pub(crate) enum Class {
-    Blank,
-    Word,
-    GroupName,
+/// Whether the byte is a blank.
+pub(crate) fn is_blank(b: u8) -> bool
+    ensures { result ≡ is_blank b }
+{
+    b == b' '
 }
 
-fn is_group_byte(b: u8) -> bool
+/// Whether group names may hold the byte: the bytes of words, `$`, `/` and `.`.
+pub(crate) fn is_group_byte(b: u8) -> bool
     ensures { result ≡ group_byte b }
 {
     is_word_byte(b) || b == b'$' || b == b'/' || b == b'.'
 }
 
-impl Class {
-    fn has(self, b: u8) -> bool
-        ensures { result ≡ holds self b }
-    {
-        match self {
-            Class::Blank => b == b' ',
-            Class::Word => is_word_byte(b),
-            Class::GroupName => is_group_byte(b),
-        }
-    }
-}
-
-/// Where the run of such bytes that begins at a place ends.
-pub(crate) fn run_end(text: &[u8], from: usize, class: Class) -> usize
-    requires { from ≤ length text.now }
-    ensures { Run (holds class) text.now from result }
+/// Where the run of bytes of a kind that begins at a place ends.
+pub(crate) fn run_end<F: Fn(u8) -> bool>(text: &[u8], from: usize, is_in: F) -> usize
+    requires inside { from ≤ length text.now }
+    requires callable { F.IsAlwaysCallable is_in }
+    ensures forward { from ≤ result }
+    ensures within { result ≤ length text.now }
+    ensures run { (p : ℕ → Bool) → Tells (F.post is_in) p → Run p text.now from result }
 {
-    let mut end = from;
-    while end < text.len() && class.has(text[end]) {
-        end += 1;
-    }
-    end
+    let rest = &text[from..];
+    from + rest.iter().position(|b| !is_in(*b)).unwrap_or(rest.len())
 }

@@ -5,7 +5,7 @@ ghost use Rattle.texts.specs.Shown.{shown};
 ghost use Rattle.lists.specs.Bytes.{IsGroupName};
 ghost use Rattle.lists.specs.GroupNames.{GroupNameFault};
 
-use super::class::{Class, run_end};
+use super::class::{is_group_byte, run_end};
 use super::reader::MAX_GROUP_NAME_BYTES;
 use faults::fault::Fault;
 use faults::kind::Kind;
@@ -26,7 +26,7 @@ impl GroupName {
         let Some(held) = Text::copy_of(text) else {
             return Err(Fault::at(Kind::GroupNameUnlawful, MAX_GROUP_NAME_BYTES));
         };
-        let end = run_end(text, 0, Class::GroupName);
+        let end = run_end(text, 0, is_group_byte);
         if end < text.len() || end == 0 {
             return Err(Fault::at(Kind::GroupNameUnlawful, end));
         }

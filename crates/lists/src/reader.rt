@@ -1,11 +1,11 @@
 //! The reader: hands out the tokens of a list text one after another, each as a part of the text.
-ghost use Rattle.std.specs.Prelude.{◌≡◌, ℕ, ◌+◌, ◌<◌, ◌≤◌, true, List, length, MatchOption, MatchResult, slice_index};
+ghost use Rattle.std.specs.Prelude.{◌≡◌, ◌<◌, ◌≤◌, true, length, MatchOption, MatchResult, slice_index};
 ghost use Rattle.std.specs.Option.{option_map};
 ghost use Rattle.names.specs.Words.{word_byte};
 ghost use Rattle.lists.specs.Bytes.{sign_of};
 ghost use Rattle.lists.specs.Lexemes.{sign, Gap, TokenAt, Next, TokenFault, Passes, HandsOut};
 
-use super::class::{Class, run_end};
+use super::class::{is_blank, is_group_byte, run_end};
 use super::token::{Lexeme, Token};
 use faults::fault::Fault;
 use faults::kind::Kind;
@@ -31,77 +31,11 @@ fn mark<'a>(b: u8) -> Option<Token<'a>>
     }
 }
 
-// The word at a place.
-fn word_at<'a>(text: &'a [u8], place: usize) -> Result<Lexeme<'a>, Fault>
-    requires { (place < length text.now) × (word_byte (slice_index text.now place) ≡ true) }
-    ensures { (from : ℕ) → Gap text.now from place → MatchResult result (λ l. TokenAt text.now from l.place l.end (sign l.token)) (λ f. TokenFault text.now from f) }
-{
-    let end = run_end(text, place, Class::Word);
-    if end - place > MAX_WORD_BYTES {
-        return Err(Fault::at(Kind::WordTooLongInList, place + MAX_WORD_BYTES));
-    }
-    Ok(Lexeme {
-        token: Token::Word(&text[place..end]),
-        place,
-        end,
-    })
-}
-
-// The group reference at a place that holds `{`.
-fn group_at<'a>(text: &'a [u8], place: usize) -> Result<Lexeme<'a>, Fault>
-    requires { (place < length text.now) × (slice_index text.now place ≡ 123) }
-    ensures { (from : ℕ) → Gap text.now from place → MatchResult result (λ l. TokenAt text.now from l.place l.end (sign l.token)) (λ f. TokenFault text.now from f) }
-{
-    let start = run_end(text, place + 1, Class::Blank);
-    let end = run_end(text, start, Class::GroupName);
-    if end == start {
-        return Err(Fault::at(Kind::GroupNameUnlawful, start));
-    }
-    if end - start > MAX_GROUP_NAME_BYTES {
-        return Err(Fault::at(Kind::GroupNameUnlawful, start + MAX_GROUP_NAME_BYTES));
-    }
-    let close = run_end(text, end, Class::Blank);
-    if close == text.len() || text[close] != b'}' {
-        return Err(Fault::at(Kind::GroupNameUnlawful, close));
-    }
-    Ok(Lexeme {
-        token: Token::Group(&text[start..end]),
-        place,
-        end: close + 1,
-    })
-}
-
-/// The next token from a place on, or none where only blanks are left.
-pub(crate) fn next_token<'a>(text: &'a [u8], from: usize) -> Result<Option<Lexeme<'a>>, Fault>
-    requires { from ≤ length text.now }
-    ensures { MatchResult result (λ n. Next text.now from n) (λ f. TokenFault text.now from f) }
-{
-    let place = run_end(text, from, Class::Blank);
-    if place == text.len() {
-        return Ok(None);
-    }
-    let b = text[place];
-    if is_word_byte(b) {
-        return Ok(Some(word_at(text, place)?));
-    }
-    if b == b'{' {
-        return Ok(Some(group_at(text, place)?));
-    }
-    match mark(b) {
-        Some(token) => Ok(Some(Lexeme {
-            token,
-            place,
-            end: place + 1,
-        })),
-        None => Err(Fault::at(Kind::ByteNotAllowedInList, place)),
-    }
-}
-
 /// Hands out the tokens of a text from left to right.
 #[derive(Drop)]
 pub struct Tokens<'a> {
-    text: &'a [u8],
-    at: usize,
+    pub(crate) text: &'a [u8],
+    pub(crate) at: usize,
     ghost within: { at ≤ length text.now },
 }
 
@@ -118,11 +52,85 @@ impl<'a> Tokens<'a> {
     pub fn next_token(&mut self) -> Result<Option<Lexeme<'a>>, Fault>
         ensures { Passes self.old.text.now self.old.at self.new.at result × (self.new.text.now ≡ self.old.text.now) }
     {
-        let next = next_token(self.text, self.at)?;
-        self.at = match next {
-            Some(lexeme) => lexeme.end,
-            None => self.text.len(),
-        };
+        let next = self.peek()?;
+        self.at = next.map_or(self.text.len(), |lexeme| lexeme.end);
         Ok(next)
+    }
+
+    // The next token, or none where only blanks are left.
+    fn peek(&self) -> Result<Option<Lexeme<'a>>, Fault>
+        ensures { MatchResult result (λ n. Next self.now.text.now self.now.at n) (λ f. TokenFault self.now.text.now self.now.at f) }
+    {
+        let place = run_end(self.text, self.at, is_blank);
+        if place == self.text.len() {
+            return Ok(None);
+        }
+        self.token_at(place).map(Some)
+    }
+
+    // The token at a place that holds no blank.
+    fn token_at(&self, place: usize) -> Result<Lexeme<'a>, Fault>
+        requires inside { place < length self.now.text.now }
+        requires gap { Gap self.now.text.now self.now.at place }
+        ensures { MatchResult result (λ l. TokenAt self.now.text.now self.now.at l.place l.end (sign l.token)) (λ f. TokenFault self.now.text.now self.now.at f) }
+    {
+        let b = self.text[place];
+        if is_word_byte(b) {
+            return self.word_at(place);
+        }
+        if b == b'{' {
+            return self.group_at(place);
+        }
+        let token = mark(b).ok_or(Fault::at(Kind::ByteNotAllowedInList, place))?;
+        Ok(Lexeme {
+            token,
+            place,
+            end: place + 1,
+        })
+    }
+
+    // The word at a place.
+    fn word_at(&self, place: usize) -> Result<Lexeme<'a>, Fault>
+        requires inside { place < length self.now.text.now }
+        requires begins { word_byte (slice_index self.now.text.now place) ≡ true }
+        requires gap { Gap self.now.text.now self.now.at place }
+        ensures { MatchResult result (λ l. TokenAt self.now.text.now self.now.at l.place l.end (sign l.token)) (λ f. TokenFault self.now.text.now self.now.at f) }
+    {
+        let end = run_end(self.text, place, is_word_byte);
+        if end - place > MAX_WORD_BYTES {
+            return Err(Fault::at(Kind::WordTooLongInList, place + MAX_WORD_BYTES));
+        }
+        Ok(Lexeme {
+            token: Token::Word(&self.text[place..end]),
+            place,
+            end,
+        })
+    }
+
+    // The group reference at a place that holds `{`.
+    fn group_at(&self, place: usize) -> Result<Lexeme<'a>, Fault>
+        requires inside { place < length self.now.text.now }
+        requires begins { slice_index self.now.text.now place ≡ 123 }
+        requires gap { Gap self.now.text.now self.now.at place }
+        ensures { MatchResult result (λ l. TokenAt self.now.text.now self.now.at l.place l.end (sign l.token)) (λ f. TokenFault self.now.text.now self.now.at f) }
+    {
+        let text = self.text;
+        let start = run_end(text, place + 1, is_blank);
+        let end = run_end(text, start, is_group_byte);
+        if end == start {
+            return Err(Fault::at(Kind::GroupNameUnlawful, start));
+        }
+        if end - start > MAX_GROUP_NAME_BYTES {
+            return Err(Fault::at(Kind::GroupNameUnlawful, start + MAX_GROUP_NAME_BYTES));
+        }
+        let close = run_end(text, end, is_blank);
+        if close == text.len() || text[close] != b'}' {
+            return Err(Fault::at(Kind::GroupNameUnlawful, close));
+        }
+        Ok(Lexeme {
+            token: Token::Group(&text[start..end]),
+            place,
+            end: close + 1,
+        })
     }
 }

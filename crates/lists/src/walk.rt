@@ -4,7 +4,7 @@ ghost use Rattle.lists.specs.Trees.{Sign};
 ghost use Rattle.lists.specs.Placed.{Placed, Walks};
 ghost use Rattle.std.specs.Iterator.{at_most};
 
-use super::reader::next_token;
+use super::reader::Tokens;
 use super::token::Lexeme;
 
 /// A walk over the tokens of a lawful list, from left to right.
@@ -24,13 +24,13 @@ impl<'a> Iterator for ListTokens<'a> {
     ghost remaining = { λ s. at_most (length s.text.now - s.at) };
 
     fn next(&mut self) -> Option<Lexeme<'a>> {
-        let Ok(next) = next_token(self.text, self.at) else {
-            unreachable()
+        let mut tokens = Tokens {
+            text: self.text,
+            at: self.at,
         };
-        self.at = match next {
-            Some(lexeme) => lexeme.end,
-            None => self.text.len(),
-        };
+        // A lawful list has no fault.
+        let next = tokens.next_token().ok()?;
+        self.at = tokens.at;
         next
     }
 }

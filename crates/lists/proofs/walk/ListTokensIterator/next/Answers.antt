@@ -1,22 +1,23 @@
 use mathlib.Core.HLevel.{⊥_prop}
 use mathlib.Core.Logic.{∥∥₁_map, ∥∥₁_elim}
-use Rattle.std.proofs.Common.{rules}
-use Rattle.lists.proofs.Placing.{fault_apart}
-use Rattle.lists.proofs.Stepping.{stepped}
-use Rattle.lists.proofs.walk.ListTokensIterator.next.Goals as goal
+use Rattle.std.proofs.Common.{sym, ◌∙◌, rules}
 use Rattle.std.proofs.iter.Next.{firm}
+use Rattle.lists.proofs.Stepping.{passed, passes_some}
+use Rattle.lists.proofs.walk.ListTokensIterator.next.Goals as goal
 
-pub unreachable-requires : goal.unreachable-requires
-unreachable-requires c = let self = c.args.self.now in ∥∥₁_elim self.readable ⊥_prop (λ r. fault_apart self.text.now self.at r.1 c.in_default.ensures)
+pub returns-in_err-next-clause-steps : goal.returns-in_err-next-clause-steps
+returns-in_err-next-clause-steps c =
+    let self = c.args.self.now in
+    absurd (∥∥₁_elim self.readable ⊥_prop (λ row. passes_some self.text.now self.at c.next_token.result _ row c.next_token.ensures.0 (sym c.in_err-next.was ∙ c.ok.ensures.value)))
 
 pub invariant_of-self : goal.invariant_of-self
 invariant_of-self c =
     let self = c.args.self.now in
-    let step = stepped self.text.now self.at c.in-Ok.next c.match-next.self c.in-Ok.ensures (search rules) in
+    let step = passed self.text.now self.at c.next_token.result c.in_ok-next.next _ c.next_token.ensures.0 (sym c.in_ok-next.was ∙ c.ok.ensures.value) in
     record { readable = ∥∥₁_map self.readable step.on; within = step.inside }
 
 pub returns : goal.returns
 returns c =
     let self = c.args.self.now in
-    let step = stepped self.text.now self.at c.in-Ok.next c.match-next.self c.in-Ok.ensures (search rules) in
+    let step = passed self.text.now self.at c.next_token.result c.in_ok-next.next _ c.next_token.ensures.0 (sym c.in_ok-next.was ∙ c.ok.ensures.value) in
     record { steps = step.walks; goes = firm step.falls (λ h. search rules) }
