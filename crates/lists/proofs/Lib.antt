@@ -19,3 +19,4 @@ pub mod Placing
 pub mod Stepping
 pub mod Grouping
 pub mod Deciding
+pub mod Copying

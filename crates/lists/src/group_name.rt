@@ -1,6 +1,5 @@
 //! Group names that are given alone.
-ghost use Rattle.std.specs.Prelude.{◌≡◌, MatchResult};
-ghost use Rattle.faults.specs.Answers.{Accepted, Refused};
+ghost use Rattle.std.specs.Prelude.{◌≡◌};
 ghost use Rattle.texts.specs.Shown.{shown};
 ghost use Rattle.lists.specs.Bytes.{IsGroupName};
 ghost use Rattle.lists.specs.GroupNames.{GroupNameFault};
@@ -9,6 +8,7 @@ use super::class::{is_group_byte, run_end};
 use super::reader::MAX_GROUP_NAME_BYTES;
 use faults::fault::Fault;
 use faults::kind::Kind;
+use faults::lawful::LawfulText;
 use texts::Text;
 
 /// A lawful group name.
@@ -18,14 +18,18 @@ pub struct GroupName {
     ghost lawful: { ∥ IsGroupName (shown text) ∥₁ },
 }
 
-impl GroupName {
-    /// The group name that the text is, or the fault that it has.
-    pub fn new(text: &[u8]) -> Result<GroupName, Fault>
-        ensures { MatchResult result (λ n. (shown n.text ≡ text.now) × Accepted (IsGroupName text.now) (GroupNameFault text.now)) (λ f. Refused (IsGroupName text.now) (GroupNameFault text.now) f) }
-    {
-        let Some(held) = Text::copy_of(text) else {
-            return Err(Fault::at(Kind::GroupNameUnlawful, MAX_GROUP_NAME_BYTES));
-        };
+impl LawfulText for GroupName {
+    ghost shows = { λ name. shown name.text };
+
+    ghost lawful = { IsGroupName };
+
+    ghost faulty = { GroupNameFault };
+
+    fn new(text: &[u8]) -> Result<GroupName, Fault> {
+        let held = Text::copy_of(text).ok_or(Fault::at(
+            Kind::GroupNameUnlawful,
+            MAX_GROUP_NAME_BYTES,
+        ))?;
         let end = run_end(text, 0, is_group_byte);
         if end < text.len() || end == 0 {
             return Err(Fault::at(Kind::GroupNameUnlawful, end));
@@ -33,17 +37,16 @@ impl GroupName {
         Ok(GroupName { text: held })
     }
 
+    fn as_bytes(&self) -> &[u8] {
+        self.text.as_bytes()
+    }
+}
+
+impl GroupName {
     /// The group name as a text.
     pub fn as_text(&self) -> &Text<MAX_GROUP_NAME_BYTES>
         ensures { result.now ≡ self.now.text }
     {
         &self.text
-    }
-
-    /// The bytes of the group name.
-    pub fn as_bytes(&self) -> &[u8]
-        ensures { result.now ≡ shown self.now.text }
-    {
-        self.text.as_bytes()
     }
 }

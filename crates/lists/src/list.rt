@@ -1,6 +1,6 @@
 //! Access lists.
-ghost use Rattle.std.specs.Prelude.{◌≡◌, MatchResult};
-ghost use Rattle.faults.specs.Answers.{Accepted, Refused};
+ghost use Rattle.std.specs.Prelude.{◌≡◌};
+ghost use Rattle.faults.specs.Lawful.{Checked};
 ghost use Rattle.texts.specs.Shown.{shown};
 ghost use Rattle.lists.specs.Texts.{LawfulList, OneReading};
 ghost use Rattle.lists.specs.Faults.{ListFault};
@@ -10,6 +10,7 @@ use super::check::check_list;
 use super::walk::ListTokens;
 use faults::fault::Fault;
 use faults::kind::Kind;
+use faults::lawful::LawfulText;
 use texts::Text;
 
 /// The most bytes that a list text has.
@@ -22,26 +23,28 @@ pub struct AccessList {
     ghost lawful: { ∥ LawfulList (shown text) ∥₁ },
 }
 
-impl AccessList {
-    /// The list that the text is, or the fault that it has.
-    pub fn new(text: &[u8]) -> Result<AccessList, Fault>
-        ensures answer { MatchResult result (λ l. (shown l.text ≡ text.now) × Accepted (LawfulList text.now) (ListFault text.now)) (λ f. Refused (LawfulList text.now) (ListFault text.now) f) }
+impl LawfulText for AccessList {
+    ghost shows = { λ list. shown list.text };
+
+    ghost lawful = { LawfulList };
+
+    ghost faulty = { ListFault };
+
+    fn new(text: &[u8]) -> Result<AccessList, Fault>
+        ensures answer { Checked (λ list. shown list.text) LawfulList ListFault text.now result }
         ensures reading { OneReading text.now }
     {
-        let Some(held) = Text::copy_of(text) else {
-            return Err(Fault::at(Kind::TextTooLong, MAX_LIST_BYTES));
-        };
+        let held = Text::copy_of(text).ok_or(Fault::at(Kind::TextTooLong, MAX_LIST_BYTES))?;
         check_list(text)?;
         Ok(AccessList { text: held })
     }
 
-    /// The bytes of the list's text.
-    pub fn as_bytes(&self) -> &[u8]
-        ensures { result.now ≡ shown self.now.text }
-    {
+    fn as_bytes(&self) -> &[u8] {
         self.text.as_bytes()
     }
+}
 
+impl AccessList {
     /// The tokens of the list, from its front.
     pub fn tokens(&self) -> ListTokens<'_>
         ensures text { result.text.now ≡ shown self.now.text }
