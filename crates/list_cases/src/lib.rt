@@ -3,25 +3,19 @@
 
 #[cfg(test)]
 mod tests {
-    use faults::fault::Fault;
+    use faults::lawful::LawfulText;
     use lists::list::AccessList;
     use lists::reader::Tokens;
     use lists::token::{Lexeme, Token};
-    use std::test::Fail;
 
-    // Whether the fault has this number, layer 2, text 0 and this place.
-    fn is_fault(found: Option<Fault>, number: u8, place: usize) -> bool {
-        match found {
-            Some(fault) => fault.kind.number() == number
+    // Whether the text is refused for a fault with this number, layer 2, text 0 and this place.
+    fn list(text: &[u8], number: u8, place: usize) -> bool {
+        AccessList::new(text).is_err_and(|fault| {
+            fault.kind.number() == number
                 && fault.kind.layer() == 2
                 && fault.text == 0
-                && fault.place == place,
-            None => false,
-        }
-    }
-
-    fn list(text: &[u8], number: u8, place: usize) -> bool {
-        is_fault(AccessList::new(text).err(), number, place)
+                && fault.place == place
+        })
     }
 
     fn is_word_byte(b: u8) -> bool {
@@ -135,30 +129,18 @@ mod tests {
         assert!(rt; list(b"a|)", 7, 2));
     }
 
-    // Whether the reader hands out a token with this place and end.
-    fn stands(next: Option<Lexeme<'_>>, place: usize, end: usize) -> bool {
-        match next {
-            Some(lexeme) => lexeme.place == place && lexeme.end == end,
-            None => false,
-        }
+    #[test]
+    fn tokens(rt: HostRuntime) {
+        let mut tokens = Tokens::new(b" log in|{ g }* ");
+        assert!(rt; tokens.next_token() == Ok(Some(lexeme(Token::Word(b"log"), 1, 4))));
+        assert!(rt; tokens.next_token() == Ok(Some(lexeme(Token::Word(b"in"), 5, 7))));
+        assert!(rt; tokens.next_token() == Ok(Some(lexeme(Token::Bar, 7, 8))));
+        assert!(rt; tokens.next_token() == Ok(Some(lexeme(Token::Group(b"g"), 8, 13))));
+        assert!(rt; tokens.next_token() == Ok(Some(lexeme(Token::Star, 13, 14))));
+        assert!(rt; tokens.next_token() == Ok(None));
     }
 
-    #[test]
-    fn tokens(rt: HostRuntime) -> Result<(), Fail> {
-        let mut tokens = Tokens::new(b" log in|{ g }* ");
-        let first = tokens.next_token().ok().ok_or("refused")?;
-        assert!(rt; stands(first, 1, 4));
-        assert!(rt;
-            match first {
-                Some(lexeme) => matches!(lexeme.token, Token::Word(b"log")),
-                None => false,
-            }
-        );
-        assert!(rt; stands(tokens.next_token().ok().ok_or("refused")?, 5, 7));
-        assert!(rt; stands(tokens.next_token().ok().ok_or("refused")?, 7, 8));
-        assert!(rt; stands(tokens.next_token().ok().ok_or("refused")?, 8, 13));
-        assert!(rt; stands(tokens.next_token().ok().ok_or("refused")?, 13, 14));
-        assert!(rt; tokens.next_token().ok().ok_or("refused")?.is_none());
-        Ok(())
+    fn lexeme(token: Token<'_>, place: usize, end: usize) -> Lexeme<'_> {
+        Lexeme { token, place, end }
     }
 }
