@@ -1,5 +1,5 @@
 -- What the reader hands out at a place of a text: the next token with its place, or the fault that it finds.
-use Rattle.std.specs.Prelude.{◌≡◌, ℕ, ◌+◌, ◌<◌, ◌≤◌, Bool, true, false, List, [], ◌∷◌, length, drop, Some, None, Ok, Err, Option, Result, ◌==◌, nat_eq, slice_index}
+use Rattle.std.specs.Prelude.{◌≡◌, ℕ, ◌+◌, ◌<◌, ◌≤◌, Bool, true, false, List, [], ◌∷◌, length, drop, Some, None, Ok, Err, Option, Result, MatchResult, ◌==◌, nat_eq, slice_index}
 use Rattle.std.specs.List.{AllByRecursion}
 use Rattle.faults.specs.declared.fault.Fault.{Fault}
 use Rattle.faults.specs.declared.kind.Kind.TheVariants.{ByteNotAllowedInList, WordTooLongInList, GroupNameUnlawful}
@@ -58,6 +58,15 @@ pub data TokenFault (text : List ℕ) (from : ℕ) : Fault → Type 0 where
   no_name : {p x : ℕ} → Gap text from p → p < length text → slice_index text p ≡ 123 → Gap text (p + 1) x → Past group_byte (drop x text) → TokenFault text from (fault GroupNameUnlawful x)
   long_name : {p x : ℕ} → Gap text from p → p < length text → slice_index text p ≡ 123 → Gap text (p + 1) x → x + 32 < length text → AllByRecursion (λ b. group_byte b ≡ true) (part text x (x + 33)) → TokenFault text from (fault GroupNameUnlawful (x + 32))
   no_brace : {p x e y : ℕ} → Gap text from p → p < length text → slice_index text p ≡ 123 → Gap text (p + 1) x → x ≤ e → IsGroupName (part text x e) → Past group_byte (drop e text) → Gap text e y → Past is_closing (drop y text) → TokenFault text from (fault GroupNameUnlawful y)
+
+-- a sign begins at a place, past the blanks from another place on
+pub record SignBegins (text : List ℕ) (from place : ℕ) : Type 0 where
+  pub gap : Gap text from place
+  pub inside : place < length text
+
+-- the token that comes next after a place, or the fault there
+abbrev pub FirstToken : List ℕ → ℕ → Result Lexeme Fault → Type 0
+FirstToken text from result = MatchResult result (λ l. TokenAt text from l.place l.end (sign l.token)) (λ f. TokenFault text from f)
 
 -- the next token, or none where only blanks are left
 abbrev pub Next : List ℕ → ℕ → Option Lexeme → Type 0

@@ -3,7 +3,7 @@ ghost use Rattle.std.specs.Prelude.{◌≡◌, ◌<◌, ◌≤◌, true, length,
 ghost use Rattle.std.specs.Option.{option_map};
 ghost use Rattle.names.specs.Words.{word_byte};
 ghost use Rattle.lists.specs.Bytes.{sign_of};
-ghost use Rattle.lists.specs.Lexemes.{sign, Gap, TokenAt, Next, TokenFault, Passes, HandsOut};
+ghost use Rattle.lists.specs.Lexemes.{sign, SignBegins, FirstToken, Next, TokenFault, Passes, HandsOut};
 
 use super::class::{is_blank, is_group_byte, run_end};
 use super::token::{Lexeme, Token};
@@ -68,11 +68,10 @@ impl<'a> Tokens<'a> {
         self.token_at(place).map(Some)
     }
 
-    // The token at a place that holds no blank.
+    // The token that begins at a place.
     fn token_at(&self, place: usize) -> Result<Lexeme<'a>, Fault>
-        requires inside { place < length self.now.text.now }
-        requires gap { Gap self.now.text.now self.now.at place }
-        ensures { MatchResult result (λ l. TokenAt self.now.text.now self.now.at l.place l.end (sign l.token)) (λ f. TokenFault self.now.text.now self.now.at f) }
+        requires { SignBegins self.now.text.now self.now.at place }
+        ensures { FirstToken self.now.text.now self.now.at result }
     {
         let b = self.text[place];
         if is_word_byte(b) {
@@ -91,10 +90,9 @@ impl<'a> Tokens<'a> {
 
     // The word at a place.
     fn word_at(&self, place: usize) -> Result<Lexeme<'a>, Fault>
-        requires inside { place < length self.now.text.now }
-        requires begins { word_byte (slice_index self.now.text.now place) ≡ true }
-        requires gap { Gap self.now.text.now self.now.at place }
-        ensures { MatchResult result (λ l. TokenAt self.now.text.now self.now.at l.place l.end (sign l.token)) (λ f. TokenFault self.now.text.now self.now.at f) }
+        requires begins { SignBegins self.now.text.now self.now.at place }
+        requires word { word_byte (slice_index self.now.text.now place) ≡ true }
+        ensures { FirstToken self.now.text.now self.now.at result }
     {
         let end = run_end(self.text, place, is_word_byte);
         if end - place > MAX_WORD_BYTES {
@@ -109,10 +107,9 @@ impl<'a> Tokens<'a> {
 
     // The group reference at a place that holds `{`.
     fn group_at(&self, place: usize) -> Result<Lexeme<'a>, Fault>
-        requires inside { place < length self.now.text.now }
-        requires begins { slice_index self.now.text.now place ≡ 123 }
-        requires gap { Gap self.now.text.now self.now.at place }
-        ensures { MatchResult result (λ l. TokenAt self.now.text.now self.now.at l.place l.end (sign l.token)) (λ f. TokenFault self.now.text.now self.now.at f) }
+        requires begins { SignBegins self.now.text.now self.now.at place }
+        requires brace { slice_index self.now.text.now place ≡ 123 }
+        ensures { FirstToken self.now.text.now self.now.at result }
     {
         let text = self.text;
         let start = run_end(text, place + 1, is_blank);

@@ -11,7 +11,7 @@ returns-then-end-start c =
     let before = c.run_end-start.ensures.run is_blank (λ b r e. e) in
     let names = c.run_end-end.ensures.run group_byte (λ b r e. e) in
     subst (TokenFault self.text.now self.at) (sym c.at.ensures)
-    (name_missing self.text.now self.at c.args.place c.requires.gap c.requires.inside c.run_end-start.result c.run_end-end.result c.requires.begins before names c.if-end-start.true)
+    (name_missing self.text.now self.at c.args.place c.requires.begins.gap c.requires.begins.inside c.run_end-start.result c.run_end-end.result c.requires.brace before names c.if-end-start.true)
 
 pub returns-then-end-start-gt-MAX_GROUP_NAME_BYTES : goal.returns-then-end-start-gt-MAX_GROUP_NAME_BYTES
 returns-then-end-start-gt-MAX_GROUP_NAME_BYTES c =
@@ -19,7 +19,7 @@ returns-then-end-start-gt-MAX_GROUP_NAME_BYTES c =
     let before = c.run_end-start.ensures.run is_blank (λ b r e. e) in
     let names = c.run_end-end.ensures.run group_byte (λ b r e. e) in
     subst (TokenFault self.text.now self.at) (sym c.at-then-end-start-gt-MAX_GROUP_NAME_BYTES.ensures)
-    (name_long self.text.now self.at c.args.place c.requires.gap c.requires.inside c.run_end-start.result c.run_end-end.result c.requires.begins before names c.if-end-start-gt-MAX_GROUP_NAME_BYTES.true)
+    (name_long self.text.now self.at c.args.place c.requires.begins.gap c.requires.begins.inside c.run_end-start.result c.run_end-end.result c.requires.brace before names c.if-end-start-gt-MAX_GROUP_NAME_BYTES.true)
 
 pub returns-then-close-text : goal.returns-then-close-text
 returns-then-close-text c =
@@ -31,7 +31,7 @@ returns-then-close-text c =
     let after = c.run_end-close.ensures.run is_blank (λ b r e. e) in
     let other : close < length text → eqb (get_or text close 0) 125 ≡ false = λ lt. elim c.then-close-text.branch [ then-close-text-via-then-close-text w ↦ absurd (omega (arith, w.if-close-text.true)) | then-close-text-via-else-close-text+then-text-close-ne125 w ↦ ne_eqb (get_or text close 0) 125 w.if-text-close-ne125.true ] in
     subst (TokenFault text self.at) (sym c.at-then-close-text.ensures)
-    (brace_missing text self.at c.args.place c.requires.gap c.requires.inside c.run_end-start.result c.run_end-end.result c.requires.begins before names c.if-end-start.false c.if-end-start-gt-MAX_GROUP_NAME_BYTES.false close after other)
+    (brace_missing text self.at c.args.place c.requires.begins.gap c.requires.begins.inside c.run_end-start.result c.run_end-end.result c.requires.brace before names c.if-end-start.false c.if-end-start-gt-MAX_GROUP_NAME_BYTES.false close after other)
 
 pub returns : goal.returns
 returns c =
@@ -42,4 +42,4 @@ returns c =
     let names = c.run_end-end.ensures.run group_byte (λ b r e. e) in
     let after = c.run_end-close.ensures.run is_blank (λ b r e. e) in
     let inside : close < length text = omega (arith, c.run_end-close.ensures.within, c.if-close-text.false) in
-    group_token text self.at c.args.place c.requires.gap c.requires.inside c.run_end-start.result c.run_end-end.result c.requires.begins before names c.if-end-start.false c.if-end-start-gt-MAX_GROUP_NAME_BYTES.false close after inside c.if-text-close-ne125.false
+    group_token text self.at c.args.place c.requires.begins.gap c.requires.begins.inside c.run_end-start.result c.run_end-end.result c.requires.brace before names c.if-end-start.false c.if-end-start-gt-MAX_GROUP_NAME_BYTES.false close after inside c.if-text-close-ne125.false

@@ -8,10 +8,10 @@ pub returns-then-end-place-gt-MAX_WORD_BYTES : goal.returns-then-end-place-gt-MA
 returns-then-end-place-gt-MAX_WORD_BYTES c =
     let self = c.args.self.now in
     let word = c.run_end-end.ensures.run word_byte (λ b r e. e) in
-    subst (TokenFault self.text.now self.at) (sym c.at.ensures) (word_long self.text.now self.at c.args.place c.requires.gap c.requires.inside c.run_end-end.result word c.if-end-place-gt-MAX_WORD_BYTES.true)
+    subst (TokenFault self.text.now self.at) (sym c.at.ensures) (word_long self.text.now self.at c.args.place c.requires.begins.gap c.requires.begins.inside c.run_end-end.result word c.if-end-place-gt-MAX_WORD_BYTES.true)
 
 pub returns : goal.returns
 returns c =
     let self = c.args.self.now in
     let word = c.run_end-end.ensures.run word_byte (λ b r e. e) in
-    word_token self.text.now self.at c.args.place c.requires.gap c.requires.inside c.run_end-end.result c.requires.begins word c.if-end-place-gt-MAX_WORD_BYTES.false
+    word_token self.text.now self.at c.args.place c.requires.begins.gap c.requires.begins.inside c.run_end-end.result c.requires.word word c.if-end-place-gt-MAX_WORD_BYTES.false
