@@ -16,7 +16,7 @@ use Rattle.lists.specs.declared.token.Token.{Token}
 use Rattle.lists.specs.declared.token.Token.TheVariants.{Word as Token-Word, Dot, At as Token-At, Plus, Any, Open, Close, Star, Bar, Group}
 use Rattle.lists.specs.Lexemes.{sign, Gap, is_blank, is_closing, TokenAt, NoSign, TokenFault, bad_byte, long_word, no_name, long_name, no_brace}
 use Rattle.lists.specs.Faults.{unmatched, kind_here, Slip, unclosed}
-use Rattle.lists.specs.Machine.{Closes, NotBlank, BracketOpens, At, within, sign_step, State, out, word, brace, name, braced, item, lift, signed, byte_step, reads, start, Stands, Leads, Enters, ListRead, ItemRead}
+use Rattle.lists.specs.Machine.{Closes, ItemStands, NotBlank, BracketOpens, At, within, sign_step, State, out, word, brace, name, braced, item, lift, signed, byte_step, reads, start, Stands, Leads, Enters, ListRead, ItemRead}
 use Rattle.lists.proofs.Machine.{Lands, reads_append, reads_blanks, out_sign, out_brace, out_reads_word, brace_reads_name, blank_ungrouped, sign_cases}
 use Rattle.lists.proofs.Viable.{reads_item, closes_item}
 use Rattle.lists.proofs.Segments.{part_length, part_join, part_none, part_one, part_more, past_at, every_append}
@@ -216,18 +216,21 @@ module _ (text : List ℕ) (marked : NotBlank text) where
   no_close true = refl
   no_close false = refl
 
-  pub unmatched_slip : (from place end : ℕ) (due : Bool) → Leads text 0 from (within 0 true) (within 0 due) → TokenAt text from place end close_bracket → Slip text (fault BracketUnmatched place)
+  unmatched_slip : (from place end : ℕ) (due : Bool) → Leads text 0 from (within 0 true) (within 0 due) → TokenAt text from place end close_bracket → Slip text (fault BracketUnmatched place)
   unmatched_slip from place end due p t = sign_slip from place end close_bracket 0 due BracketUnmatched tt p t (no_close due) (λ h e. sym (cond-true _ _ _ (unmatched_none text marked place h e)) ∙ kind_close (take place text) (drop (place + 1) text))
 
   -- where an item is due
-  pub close_slip : (from place end d : ℕ) → 0 < d → Leads text 0 from (within 0 true) (within d true) → TokenAt text from place end close_bracket → Slip text (fault ItemMissing place)
+  close_slip : (from place end d : ℕ) → 0 < d → Leads text 0 from (within 0 true) (within d true) → TokenAt text from place end close_bracket → Slip text (fault ItemMissing place)
   close_slip from place end d some p t = sign_slip from place end close_bracket d true ItemMissing tt p t refl (λ h e. sym (cond-false _ _ _ (unmatched_some text marked place h (omega arith))) ∙ kind_close (take place text) (drop (place + 1) text))
 
-  pub star_slip : (from place end d : ℕ) → Leads text 0 from (within 0 true) (within d true) → TokenAt text from place end star → Slip text (fault ItemMissing place)
-  star_slip from place end d p t = sign_slip from place end star d true ItemMissing tt p t refl (λ h e. kind_star (take place text) (drop (place + 1) text))
+  due_there : {i j d : ℕ} {due due' : Bool} → due ≡ due' → Leads text i j (within 0 true) (within d due) → Leads text i j (within 0 true) (within d due')
+  due_there {i} {j} {d} e p = subst (λ x. Leads text i j (within 0 true) (within d x)) e p
 
-  pub bar_slip : (from place end d : ℕ) → Leads text 0 from (within 0 true) (within d true) → TokenAt text from place end bar → Slip text (fault ItemMissing place)
-  bar_slip from place end d p t = sign_slip from place end bar d true ItemMissing tt p t refl (λ h e. kind_bar (take place text) (drop (place + 1) text))
+  pub star_slip : (from place end d : ℕ) (due : Bool) (f : Fault) → Leads text 0 from (within 0 true) (within d due) → TokenAt text from place end star → ItemStands place due (Err f) → Slip text f
+  star_slip from place end d due f p t (is_due, is) = subst (Slip text) (sym is) (sign_slip from place end star d true ItemMissing tt (due_there is_due p) t refl (λ h e. kind_star (take place text) (drop (place + 1) text)))
+
+  pub bar_slip : (from place end d : ℕ) (due : Bool) (f : Fault) → Leads text 0 from (within 0 true) (within d due) → TokenAt text from place end bar → ItemStands place due (Err f) → Slip text f
+  bar_slip from place end d due f p t (is_due, is) = subst (Slip text) (sym is) (sign_slip from place end bar d true ItemMissing tt (due_there is_due p) t refl (λ h e. kind_bar (take place text) (drop (place + 1) text)))
 
   -- a seventeenth bracket
   is_open : (b : ℕ) → b ≡ 40 → sign_of b ≡ Some open_bracket
@@ -248,9 +251,9 @@ module _ (text : List ℕ) (marked : NotBlank text) where
   standing (name a k) c rest h = absurd h
   standing (braced a) c rest h = absurd h
 
-  pub end_slip : (from d : ℕ) → Leads text 0 from (within 0 true) (within d true) → Gap text from (length text) → Slip text (fault ItemMissing (length text))
-  end_slip from d p g =
-      let w = leads_join p (gap_leads text from (length text) (within d true) g) in
+  pub end_slip : (from d : ℕ) (due : Bool) → Leads text 0 from (within 0 true) (within d due) → Gap text from (length text) → due ≡ true → Slip text (fault ItemMissing (length text))
+  end_slip from d due p g is_due =
+      let w = leads_join (due_there is_due p) (gap_leads text from (length text) (within d true) g) in
       let front : length text - 0 ≡ length text = omega arith in
       let h : Halt text marked (length text) = record { within_text = omega arith; state = w.state; reading = ap (λ n. reads start (take n text)) (sym front) ∙ w.reading; stops = λ lt. absurd (omega arith); unfinished = λ _. due_unfinished w.state d _ w.stands } in
       halt_slip text marked (length text) ItemMissing h (kind_end text marked (length text) h (standing w.state (within d true) _ w.stands) refl)
@@ -303,7 +306,7 @@ module _ (text : List ℕ) (marked : NotBlank text) where
   close_refused from place end d due f p t c =
       ⊎_elim
       (λ (none, is). subst (Slip text) (sym is) (unmatched_slip from place end due (subst (λ n. Leads text 0 from (within 0 true) (within n due)) none p) t))
-      (λ (some, (is_due, is)). subst (Slip text) (sym is) (close_slip from place end d some (subst (λ x. Leads text 0 from (within 0 true) (within d x)) is_due p) t))
+      (λ (some, (is_due, is)). subst (Slip text) (sym is) (close_slip from place end d some (due_there is_due p) t))
       c
 
 -- a token that is an item

@@ -1,4 +1,4 @@
-use Rattle.std.proofs.Common.{◌≡◌, ℕ, ◌+◌, ◌<◌, Bool, true, false, List, length, Some, None, Ok, Option, sym, refl, ap, ◌∙◌, subst, arith, rules}
+use Rattle.std.proofs.Common.{◌≡◌, ℕ, ◌+◌, ◌<◌, true, false, List, length, Some, None, Ok, Option, sym, refl, ap, ◌∙◌, subst, arith, rules}
 use Rattle.std.proofs.lemmas.Result.{err_from_is_err_and}
 use Rattle.faults.specs.declared.kind.Kind.TheVariants.{ItemMissing}
 use Rattle.names.specs.Faults.{fault}
@@ -12,6 +12,7 @@ use Rattle.lists.specs.Machine.{within, Leads, Enters, BracketOpens, ListRead, I
 use Rattle.lists.proofs.Course.{leads_join, leads_none, gap_leads, token_leads}
 use Rattle.lists.proofs.Slips.{token_slip, star_slip, bar_slip, deep_slip, end_slip, bracket_leads, bracket_opens, unclosed_slip, bracket_read, item_sign, close_read, close_refused}
 use Rattle.lists.proofs.check.+read_bracket_read_list.Goals as goal
+use Rattle.lists.proofs.check.+read_bracket_read_list.Goals.{read_list-After-next_token, read_list-In-Some}
 
 -- the token that the reader has passed, in the text at the front of the list
 token : (now text : List ℕ) (from to : ℕ) (o : Option Lexeme) (l : Lexeme) (k : Token) → now ≡ text → Passes now from to (Ok o) → o ≡ Some l → l.token ≡ k → TokenAt text from l.place to (sign k)
@@ -22,10 +23,6 @@ token now text from to o l k same p e f =
 -- where the reader has come to the text's end
 at_end : (now text : List ℕ) (from to : ℕ) (o : Option Lexeme) → now ≡ text → Passes now from to (Ok o) → o ≡ None → Gap text from (length text) × (to ≡ length text)
 at_end now text from to o same p e = subst (λ u. Passes u from to (Ok None)) same (subst (λ x. Passes now from to (Ok x)) e p)
-
--- an item is due, or stands before
-due_there : (text : List ℕ) (i j d : ℕ) {due due' : Bool} → due ≡ due' → Leads text i j (within 0 true) (within d due) → Leads text i j (within 0 true) (within d due')
-due_there text i j d e p = subst (λ x. Leads text i j (within 0 true) (within d x)) e p
 
 pub read_bracket-returns-then-depth-eq-MAX_DEPTH-clause-read : goal.read_bracket-returns-then-depth-eq-MAX_DEPTH-clause-read
 read_bracket-returns-then-depth-eq-MAX_DEPTH-clause-read t c =
@@ -67,110 +64,90 @@ read_bracket-returns-clause-read t c =
 pub read_list-loop-lexeme-init : goal.read_list-loop-lexeme-init
 read_list-loop-lexeme-init t c = (refl, λ e le. leads_none c.args.tokens.now.text.now c.args.tokens.now.at (within e true) c.requires.leads.within_text)
 
+-- what has been read of the list when the reader goes on, and the token that it has passed
+so_far : (t : ℕ) (c : read_list-After-next_token t) → Leads c.args.tokens.now.text.now 0 c.loop-lexeme.tokens.at (within 0 true) (within c.args.depth c.loop-lexeme.due)
+so_far t c = leads_join c.requires.leads (c.loop-lexeme.invariant.1 c.args.depth (omega arith))
+
+same : (t : ℕ) (c : read_list-In-Some t) → c.next_token.new.self.text.now ≡ c.args.tokens.now.text.now
+same t c = c.in_ok-lexeme.ensures.1 ∙ c.loop-lexeme.invariant.0
+
+passed : (t : ℕ) (c : read_list-In-Some t) (k : Token) → c.in-Some.lexeme.token ≡ k → TokenAt c.args.tokens.now.text.now c.loop-lexeme.tokens.at c.in-Some.lexeme.place c.next_token.new.self.at (sign k)
+passed t c k is = token c.loop-lexeme.tokens.text.now c.args.tokens.now.text.now c.loop-lexeme.tokens.at _ _ c.in-Some.lexeme k c.loop-lexeme.invariant.0 c.in_ok-lexeme.ensures.0 c.in-Some.is is
+
 pub read_list-returns-in_err-lexeme-clause-read : goal.read_list-returns-in_err-lexeme-clause-read
 read_list-returns-in_err-lexeme-clause-read t c =
     let p = err_from_is_err_and c.from_residual.result c.from_residual.ensures.1 in
-    let before = c.loop-lexeme in
-    let text = c.args.tokens.now.text.now in
+    let at = c.loop-lexeme.tokens.at in
     rw (p.1, p.2)
-    (token_slip text c.requires.marked before.tokens.at (within c.args.depth before.due) _ (leads_join c.requires.leads (before.invariant.1 c.args.depth (omega arith)))
-    (subst (λ u. TokenFault u before.tokens.at c.in_err-lexeme.field-0.0) before.invariant.0 c.in_err-lexeme.ensures.0.0))
+    (token_slip c.args.tokens.now.text.now c.requires.marked at (within c.args.depth c.loop-lexeme.due) _ (so_far t (goal.at.read_list-returns-in_err-lexeme-clause-read t c).After-next_token)
+    (subst (λ u. TokenFault u at c.in_err-lexeme.field-0.0) c.loop-lexeme.invariant.0 c.in_err-lexeme.ensures.0.0))
 
 pub read_list-read_bracket-requires : goal.read_list-read_bracket-requires
 read_list-read_bracket-requires t c =
-    let before = c.loop-lexeme in
-    let text = c.args.tokens.now.text.now in
-    let here = token before.tokens.text.now text before.tokens.at _ _ c.in-Some.lexeme Open before.invariant.0 c.in_ok-lexeme.ensures.0 c.in-Some.is c.in-Open.is in
-    let on = before.invariant.1 c.args.depth (omega arith) in
-    let opens = bracket_opens text c.requires.marked before.tokens.at c.in-Some.lexeme.place c.next_token.new.self.at c.args.depth before.due c.requires.shallow (leads_join c.requires.leads on) here in
-    let same = c.in_ok-lexeme.ensures.1 ∙ before.invariant.0 in
-    (omega (arith, ap length same, on.forward, here.gap.forward, here.some, here.within), subst (λ u. BracketOpens u c.in-Some.lexeme.place c.next_token.new.self.at c.args.depth) (sym same) opens)
-
-pub read_list-loop-lexeme-preserved-in-Open : goal.read_list-loop-lexeme-preserved-in-Open
-read_list-loop-lexeme-preserved-in-Open t c =
-    let before = c.loop-lexeme in
-    let text = c.args.tokens.now.text.now in
-    let here = token before.tokens.text.now text before.tokens.at _ _ c.in-Some.lexeme Open before.invariant.0 c.in_ok-lexeme.ensures.0 c.in-Some.is c.in-Open.is in
-    let same = c.in_ok-lexeme.ensures.1 ∙ before.invariant.0 in
-    let item = subst (λ u. ItemRead u c.in-Some.lexeme.place c.read_bracket.new.tokens.at c.args.depth) same c.in_ok-read_bracket-in-Open.ensures.read in
-    (c.read_bracket.ensures.kept ∙ same, λ e le. leads_join (leads_join (before.invariant.1 e le) (gap_leads text before.tokens.at c.in-Some.lexeme.place _ here.gap)) (item.1 e before.due le))
+    let here = passed t (goal.at.read_list-read_bracket-requires t c).In-Some Open c.in-Open.is in
+    let opens = bracket_opens c.args.tokens.now.text.now c.requires.marked c.loop-lexeme.tokens.at c.in-Some.lexeme.place c.next_token.new.self.at c.args.depth c.loop-lexeme.due c.requires.shallow (so_far t (goal.at.read_list-read_bracket-requires t c).After-next_token) here in
+    let on = c.loop-lexeme.invariant.1 c.args.depth (omega arith) in
+    let e = same t (goal.at.read_list-read_bracket-requires t c).In-Some in
+    (omega (arith, ap length e, on.forward, here.gap.forward, here.some, here.within), subst (λ u. BracketOpens u c.in-Some.lexeme.place c.next_token.new.self.at c.args.depth) (sym e) opens)
 
 pub read_list-returns-in_err-read_bracket-in-Open-clause-read : goal.read_list-returns-in_err-read_bracket-in-Open-clause-read
 read_list-returns-in_err-read_bracket-in-Open-clause-read t c =
     let p = err_from_is_err_and c.from_residual-in_err-read_bracket-in-Open.result c.from_residual-in_err-read_bracket-in-Open.ensures.1 in
-    rw (p.1, p.2) (subst (λ u. Slip u c.in_err-read_bracket-in-Open.field-0.0) (c.in_ok-lexeme.ensures.1 ∙ c.loop-lexeme.invariant.0) c.in_err-read_bracket-in-Open.ensures.read)
+    rw (p.1, p.2) (subst (λ u. Slip u c.in_err-read_bracket-in-Open.field-0.0) (same t (goal.at.read_list-returns-in_err-read_bracket-in-Open-clause-read t c).In-Some) c.in_err-read_bracket-in-Open.ensures.read)
+
+pub read_list-loop-lexeme-preserved-in-Open : goal.read_list-loop-lexeme-preserved-in-Open
+read_list-loop-lexeme-preserved-in-Open t c =
+    let e = same t (goal.at.read_list-loop-lexeme-preserved-in-Open t c).In-Some in
+    let item = subst (λ u. ItemRead u c.in-Some.lexeme.place c.read_bracket.new.tokens.at c.args.depth) e c.in_ok-read_bracket-in-Open.ensures.read in
+    let gap = (passed t (goal.at.read_list-loop-lexeme-preserved-in-Open t c).In-Some Open c.in-Open.is).gap in
+    (c.read_bracket.ensures.kept ∙ e, λ d le. leads_join (leads_join (c.loop-lexeme.invariant.1 d le) (gap_leads c.args.tokens.now.text.now c.loop-lexeme.tokens.at c.in-Some.lexeme.place _ gap)) (item.1 d c.loop-lexeme.due le))
 
 pub read_list-returns-in_err-close-in-Close-clause-read : goal.read_list-returns-in_err-close-in-Close-clause-read
 read_list-returns-in_err-close-in-Close-clause-read t c =
-    let before = c.loop-lexeme in
-    let text = c.args.tokens.now.text.now in
-    let here = token before.tokens.text.now text before.tokens.at _ _ c.in-Some.lexeme Close before.invariant.0 c.in_ok-lexeme.ensures.0 c.in-Some.is c.in-Close.is in
     let p = err_from_is_err_and c.from_residual-in_err-close-in-Close.result c.from_residual-in_err-close-in-Close.ensures.1 in
-    rw (p.1, p.2) (close_refused text c.requires.marked before.tokens.at _ _ c.args.depth before.due _ (leads_join c.requires.leads (before.invariant.1 c.args.depth (omega arith))) here c.in_err-close-in-Close.ensures)
+    rw (p.1, p.2) (close_refused c.args.tokens.now.text.now c.requires.marked c.loop-lexeme.tokens.at _ _ c.args.depth c.loop-lexeme.due _ (so_far t (goal.at.read_list-returns-in_err-close-in-Close-clause-read t c).After-next_token) (passed t (goal.at.read_list-returns-in_err-close-in-Close-clause-read t c).In-Some Close c.in-Close.is) c.in_err-close-in-Close.ensures)
 
 pub read_list-returns-in-Close-clause-read : goal.read_list-returns-in-Close-clause-read
 read_list-returns-in-Close-clause-read t c =
-    let before = c.loop-lexeme in
-    let text = c.args.tokens.now.text.now in
-    let here = token before.tokens.text.now text before.tokens.at _ _ c.in-Some.lexeme Close before.invariant.0 c.in_ok-lexeme.ensures.0 c.in-Some.is c.in-Close.is in
     let (some, had) = c.in_ok-close-in-Close.ensures in
-    close_read text c.requires.marked c.args.tokens.now.at before.tokens.at _ _ c.args.depth before.due before.invariant.1 here some had
+    close_read c.args.tokens.now.text.now c.requires.marked c.args.tokens.now.at c.loop-lexeme.tokens.at _ _ c.args.depth c.loop-lexeme.due c.loop-lexeme.invariant.1 (passed t (goal.at.read_list-returns-in-Close-clause-read t c).In-Some Close c.in-Close.is) some had
 
 pub read_list-returns-in_err-after_item-in-Star-clause-read : goal.read_list-returns-in_err-after_item-in-Star-clause-read
 read_list-returns-in_err-after_item-in-Star-clause-read t c =
-    let before = c.loop-lexeme in
-    let text = c.args.tokens.now.text.now in
-    let here = token before.tokens.text.now text before.tokens.at _ _ c.in-Some.lexeme Star before.invariant.0 c.in_ok-lexeme.ensures.0 c.in-Some.is c.in-Star.is in
     let p = err_from_is_err_and c.from_residual-in_err-after_item-in-Star.result c.from_residual-in_err-after_item-in-Star.ensures.1 in
-    let (due, is) = c.in_err-after_item-in-Star.ensures in
-    rw (p.1, p.2) (subst (Slip text) (sym is) (star_slip text c.requires.marked before.tokens.at _ _ c.args.depth (due_there _ _ _ _ due (leads_join c.requires.leads (before.invariant.1 c.args.depth (omega arith)))) here))
+    rw (p.1, p.2) (star_slip c.args.tokens.now.text.now c.requires.marked c.loop-lexeme.tokens.at _ _ c.args.depth c.loop-lexeme.due _ (so_far t (goal.at.read_list-returns-in_err-after_item-in-Star-clause-read t c).After-next_token) (passed t (goal.at.read_list-returns-in_err-after_item-in-Star-clause-read t c).In-Some Star c.in-Star.is) c.in_err-after_item-in-Star.ensures)
 
 pub read_list-loop-lexeme-preserved-in-Continue-branch-5 : goal.read_list-loop-lexeme-preserved-in-Continue-branch-5
 read_list-loop-lexeme-preserved-in-Continue-branch-5 t c =
-    let before = c.loop-lexeme in
-    let text = c.args.tokens.now.text.now in
-    let here = token before.tokens.text.now text before.tokens.at _ _ c.in-Some.lexeme Star before.invariant.0 c.in_ok-lexeme.ensures.0 c.in-Some.is c.in-Star.is in
-    (c.in_ok-lexeme.ensures.1 ∙ before.invariant.0, λ e le. leads_join (before.invariant.1 e le) (subst (λ x. Leads text before.tokens.at c.next_token.new.self.at (within e x) (within e x)) (sym c.in_ok-after_item-in-Star.ensures) (token_leads text before.tokens.at _ _ star (within e false) (within e false) here refl)))
+    let here = passed t (goal.at.read_list-loop-lexeme-preserved-in-Continue-branch-5 t c).In-Some Star c.in-Star.is in
+    (same t (goal.at.read_list-loop-lexeme-preserved-in-Continue-branch-5 t c).In-Some, λ d le. leads_join (c.loop-lexeme.invariant.1 d le) (subst (λ x. Leads c.args.tokens.now.text.now c.loop-lexeme.tokens.at c.next_token.new.self.at (within d x) (within d x)) (sym c.in_ok-after_item-in-Star.ensures) (token_leads c.args.tokens.now.text.now c.loop-lexeme.tokens.at _ _ star (within d false) (within d false) here refl)))
 
 pub read_list-returns-in_err-after_item-in-Bar-clause-read : goal.read_list-returns-in_err-after_item-in-Bar-clause-read
 read_list-returns-in_err-after_item-in-Bar-clause-read t c =
-    let before = c.loop-lexeme in
-    let text = c.args.tokens.now.text.now in
-    let here = token before.tokens.text.now text before.tokens.at _ _ c.in-Some.lexeme Bar before.invariant.0 c.in_ok-lexeme.ensures.0 c.in-Some.is c.in-Bar.is in
     let p = err_from_is_err_and c.from_residual-in_err-after_item-in-Bar.result c.from_residual-in_err-after_item-in-Bar.ensures.1 in
-    let (due, is) = c.in_err-after_item-in-Bar.ensures in
-    rw (p.1, p.2) (subst (Slip text) (sym is) (bar_slip text c.requires.marked before.tokens.at _ _ c.args.depth (due_there _ _ _ _ due (leads_join c.requires.leads (before.invariant.1 c.args.depth (omega arith)))) here))
+    rw (p.1, p.2) (bar_slip c.args.tokens.now.text.now c.requires.marked c.loop-lexeme.tokens.at _ _ c.args.depth c.loop-lexeme.due _ (so_far t (goal.at.read_list-returns-in_err-after_item-in-Bar-clause-read t c).After-next_token) (passed t (goal.at.read_list-returns-in_err-after_item-in-Bar-clause-read t c).In-Some Bar c.in-Bar.is) c.in_err-after_item-in-Bar.ensures)
 
 pub read_list-loop-lexeme-preserved-in-Bar : goal.read_list-loop-lexeme-preserved-in-Bar
 read_list-loop-lexeme-preserved-in-Bar t c =
-    let before = c.loop-lexeme in
-    let text = c.args.tokens.now.text.now in
-    let here = token before.tokens.text.now text before.tokens.at _ _ c.in-Some.lexeme Bar before.invariant.0 c.in_ok-lexeme.ensures.0 c.in-Some.is c.in-Bar.is in
-    (c.in_ok-lexeme.ensures.1 ∙ before.invariant.0, λ e le. leads_join (before.invariant.1 e le) (subst (λ x. Leads text before.tokens.at c.next_token.new.self.at (within e x) (within e true)) (sym c.in_ok-after_item-in-Bar.ensures) (token_leads text before.tokens.at _ _ bar (within e false) (within e true) here refl)))
+    let here = passed t (goal.at.read_list-loop-lexeme-preserved-in-Bar t c).In-Some Bar c.in-Bar.is in
+    (same t (goal.at.read_list-loop-lexeme-preserved-in-Bar t c).In-Some, λ d le. leads_join (c.loop-lexeme.invariant.1 d le) (subst (λ x. Leads c.args.tokens.now.text.now c.loop-lexeme.tokens.at c.next_token.new.self.at (within d x) (within d true)) (sym c.in_ok-after_item-in-Bar.ensures) (token_leads c.args.tokens.now.text.now c.loop-lexeme.tokens.at _ _ bar (within d false) (within d true) here refl)))
 
 pub read_list-loop-lexeme-preserved : goal.read_list-loop-lexeme-preserved
 read_list-loop-lexeme-preserved t c =
-    let before = c.loop-lexeme in
-    let text = c.args.tokens.now.text.now in
-    let l = c.in-Some.lexeme in
-    let here = token before.tokens.text.now text before.tokens.at _ _ l l.token before.invariant.0 c.in_ok-lexeme.ensures.0 c.in-Some.is refl in (
-      c.in_ok-lexeme.ensures.1 ∙ before.invariant.0,
-      λ e le. leads_join (before.invariant.1 e le) (token_leads text before.tokens.at l.place _ (sign l.token) (within e before.due) (within e false) here (item_sign l.token c.in_default-token.not-Open c.in_default-token.not-Close c.in_default-token.not-Star c.in_default-token.not-Bar e before.due)),
-    )
+    let k = c.in-Some.lexeme.token in
+    let here = passed t (goal.at.read_list-loop-lexeme-preserved t c).In-Some k refl in
+    let other = c.in_default-token in
+    (same t (goal.at.read_list-loop-lexeme-preserved t c).In-Some, λ d le. leads_join (c.loop-lexeme.invariant.1 d le) (token_leads c.args.tokens.now.text.now c.loop-lexeme.tokens.at _ _ (sign k) (within d c.loop-lexeme.due) (within d false) here (item_sign k other.not-Open other.not-Close other.not-Star other.not-Bar d c.loop-lexeme.due)))
 
 pub read_list-returns-in_err-after_item-clause-read : goal.read_list-returns-in_err-after_item-clause-read
 read_list-returns-in_err-after_item-clause-read t c =
-    let before = c.loop-lexeme in
-    let text = c.args.tokens.now.text.now in
-    let (gap, _) = at_end before.tokens.text.now text before.tokens.at _ _ before.invariant.0 c.in_ok-lexeme.ensures.0 c.in_default.is in
+    let (gap, _) = at_end c.loop-lexeme.tokens.text.now c.args.tokens.now.text.now c.loop-lexeme.tokens.at _ _ c.loop-lexeme.invariant.0 c.in_ok-lexeme.ensures.0 c.in_default.is in
     let p = err_from_is_err_and c.from_residual-in_err-after_item.result c.from_residual-in_err-after_item.ensures.1 in
     let (due, is) = c.in_err-after_item.ensures in
-    let same = c.in_ok-lexeme.ensures.1 ∙ before.invariant.0 in
-    rw (p.1, p.2) (subst (Slip text) (sym (is ∙ ap (λ u. fault ItemMissing (length u)) same)) (end_slip text c.requires.marked before.tokens.at c.args.depth (due_there _ _ _ _ due (leads_join c.requires.leads (before.invariant.1 c.args.depth (omega arith)))) gap))
+    let e = c.in_ok-lexeme.ensures.1 ∙ c.loop-lexeme.invariant.0 in
+    rw (p.1, p.2) (subst (Slip c.args.tokens.now.text.now) (sym (is ∙ ap (λ u. fault ItemMissing (length u)) e)) (end_slip c.args.tokens.now.text.now c.requires.marked c.loop-lexeme.tokens.at c.args.depth c.loop-lexeme.due (so_far t (goal.at.read_list-returns-in_err-after_item-clause-read t c).After-next_token) gap due))
 
 pub read_list-returns-clause-read : goal.read_list-returns-clause-read
 read_list-returns-clause-read t c =
-    let before = c.loop-lexeme in
-    let text = c.args.tokens.now.text.now in
-    let (gap, end) = at_end before.tokens.text.now text before.tokens.at _ _ before.invariant.0 c.in_ok-lexeme.ensures.0 c.in_default.is in
-    (end, λ e le. subst (λ x. Leads text c.args.tokens.now.at c.next_token.new.self.at (within e true) (within e x)) c.in_ok-after_item.ensures (leads_join (before.invariant.1 e le) (gap_leads text before.tokens.at _ _ (subst (Gap text before.tokens.at) (sym end) gap))))
+    let (gap, end) = at_end c.loop-lexeme.tokens.text.now c.args.tokens.now.text.now c.loop-lexeme.tokens.at _ _ c.loop-lexeme.invariant.0 c.in_ok-lexeme.ensures.0 c.in_default.is in
+    (end, λ d le. subst (λ x. Leads c.args.tokens.now.text.now c.args.tokens.now.at c.next_token.new.self.at (within d true) (within d x)) c.in_ok-after_item.ensures (leads_join (c.loop-lexeme.invariant.1 d le) (gap_leads c.args.tokens.now.text.now c.loop-lexeme.tokens.at _ _ (subst (Gap c.args.tokens.now.text.now c.loop-lexeme.tokens.at) (sym end) gap))))
