@@ -11,6 +11,7 @@ use super::row::Group;
 use super::table::TableBook;
 use faults::fault::Fault;
 use faults::kind::Kind;
+use faults::lawful::LawfulText;
 use lists::group_name::GroupName;
 use lists::list::MAX_LIST_BYTES;
 use texts::Text;

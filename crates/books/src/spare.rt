@@ -4,6 +4,7 @@ ghost use Rattle.texts.specs.Shown.{shown};
 ghost use Rattle.books.specs.Groups.{name_of};
 
 use super::row::Group;
+use faults::lawful::LawfulText;
 use lists::group_name::GroupName;
 use texts::Text;
 

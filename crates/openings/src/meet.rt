@@ -13,6 +13,7 @@ use books::book::Book;
 use books::row::Group;
 use faults::fault::Fault;
 use faults::kind::Kind;
+use faults::lawful::LawfulText;
 use links::MAX_GROUPS;
 use lists::group_name::GroupName;
 use lists::list::AccessList;

@@ -12,6 +12,7 @@ use super::known::KnownGroups;
 use super::opened::Opened;
 use books::book::Book;
 use faults::fault::Fault;
+use faults::lawful::LawfulText;
 use links::Links;
 use lists::group_name::GroupName;
 use lists::list::AccessList;

@@ -7,6 +7,7 @@ ghost use Rattle.openings.specs.Reading.{TextRead};
 use books::book::Book;
 use faults::fault::Fault;
 use faults::kind::Kind;
+use faults::lawful::LawfulText;
 use lists::group_name::GroupName;
 use lists::list::{AccessList, MAX_LIST_BYTES};
 

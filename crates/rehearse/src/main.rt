@@ -4,6 +4,7 @@
 use books::row::Group;
 use books::table::{TABLE_ROWS, TableBook};
 use faults::fault::Fault;
+use faults::lawful::LawfulText;
 use lists::list::AccessList;
 use matching::derives;
 use faults::lawful::LawfulText;
