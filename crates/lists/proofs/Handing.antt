@@ -1,6 +1,5 @@
 -- The tokens that the reader hands out, with the blanks between them, are the text again.
-use Rattle.std.proofs.Common.{◌≡◌, ℕ, zero, suc, ◌+◌, ◌-◌, ◌<◌, ◌≤◌, Bool, true, List, [], ◌∷◌, ◌++◌, length, take, drop, sym, refl, ap, ◌∙◌, subst, append-nil, arith, length-append, length-drop, ne_eqb}
-use borrow.Author.Tests.{clash}
+use Rattle.std.proofs.Common.{◌≡◌, ℕ, zero, suc, ◌+◌, ◌-◌, ◌<◌, ◌≤◌, Bool, true, false, List, [], ◌∷◌, ◌++◌, length, take, drop, sym, refl, ap, ◌∙◌, subst, append-nil, arith, length-append, length-drop}
 use lib.ListN.{length-replicate}
 use Rattle.std.proofs.lemmas.List.{drop_all, drop-drop, take_at, drop_at}
 use Rattle.std.specs.List.{AllByRecursion}
@@ -9,9 +8,14 @@ use Rattle.lists.specs.Trees.{Sign}
 use Rattle.lists.specs.Bytes.{blanks, part, Past, Run}
 use Rattle.lists.specs.Tokens.{Shows, shows_word, shows_mark, shows_group, Spells, ends, next}
 use Rattle.lists.specs.Lexemes.{Gap, is_blank, Handed, all, first}
-use Rattle.lists.proofs.Machine.{blank_out, sign_apart}
+use Rattle.lists.proofs.Machine.{apart, blank_out, sign_apart}
 use Rattle.lists.proofs.Segments.{drop_part}
 use Rattle.lists.proofs.Lexing.{gap_blanks}
+
+-- bytes of a kind that blanks are not of do not begin with a blank
+pub unblank : (p : ℕ → Bool) → p 32 ≡ false → (w more : List ℕ) → 0 < length w → AllByRecursion (λ b. p b ≡ true) w → Past is_blank (w ++ more)
+unblank p other [] more some bs = absurd (omega arith)
+unblank p other (b ∷ w) more some bs = apart p b 32 bs.0 other
 
 module _ (text : List ℕ) where
   pub handed_spells : {at : ℕ} {ss : List Sign} → Handed text at ss → Spells (drop at text) ss
@@ -44,11 +48,7 @@ module _ (text : List ℕ) where
 
   -- what shows a sign has a byte, and does not begin with a blank
   shows_some : {u rest : List ℕ} {s : Sign} → Shows u rest s → (0 < length u) × ((more : List ℕ) → Past is_blank (u ++ more))
-  shows_some (shows_word {w = w} h p) = (h.some, λ more. word_first w more h.some h.bytes)
-    where
-      word_first : (w more : List ℕ) → 0 < length w → AllByRecursion (λ b. word_byte b ≡ true) w → Past is_blank (w ++ more)
-      word_first [] more some bs = absurd (omega arith)
-      word_first (b ∷ w) more some bs = ne_eqb b 32 (λ e. clash (sym blank_out ∙ ap word_byte (sym e) ∙ bs.0))
+  shows_some (shows_word {w = w} h p) = (h.some, λ more. unblank word_byte blank_out w more h.some h.bytes)
   shows_some (shows_mark {b = b} {s = s} is) = (omega arith, λ more. (sign_apart b s is).0)
   shows_some (shows_group x y h) = (omega arith, λ more. refl)
 

@@ -1,5 +1,5 @@
 -- What the machine reads: words, group names and marks with blanks between them.
-use Rattle.std.proofs.Common.{◌≡◌, ℕ, zero, suc, ◌+◌, ◌≤◌, true, false, eqb, List, [], ◌∷◌, ◌++◌, length, Some, None, Option, sym, refl, ap, ◌∙◌, subst, append_assoc, arith, lt-ltb, ne_eqb, eqb-true}
+use Rattle.std.proofs.Common.{◌≡◌, ℕ, zero, suc, ◌+◌, ◌<◌, ◌≤◌, Bool, true, false, eqb, List, [], ◌∷◌, ◌++◌, length, Some, None, Option, sym, refl, ap, ◌∙◌, subst, append_assoc, arith, lt-ltb, ne_eqb, eqb-true}
 use borrow.Author.Tests.{clash}
 use Rattle.std.proofs.lemmas.Bool.{cond-true, cond-false, cond_both}
 use Rattle.std.specs.List.{AllByRecursion}
@@ -46,12 +46,12 @@ pub close_ungrouped : group_byte 125 ≡ false
 unfolding group_byte word_byte
 close_ungrouped = refl
 
--- what each step does
-pub out_blank : (a : At) → out_step a 32 ≡ Some (out a)
-out_blank a = refl
+pub apart : (p : ℕ → Bool) (b k : ℕ) → p b ≡ true → p k ≡ false → eqb b k ≡ false
+apart p b k is other = ne_eqb b k (λ e. clash (sym other ∙ ap p (sym e) ∙ is))
 
+-- what each step does
 pub out_word : (a : At) (b : ℕ) → word_byte b ≡ true → out_step a b ≡ Some (word (item a) 1)
-out_word a b is = cond-false _ _ _ (ne_eqb b 32 (λ e. clash (sym blank_out ∙ ap word_byte (sym e) ∙ is))) ∙ cond-true _ _ _ is
+out_word a b is = cond-false _ _ _ (apart word_byte b 32 is blank_out) ∙ cond-true _ _ _ is
 
 pub out_brace : (a : At) → out_step a 123 ≡ Some (brace (item a))
 out_brace a = cond-false _ _ _ brace_out
@@ -94,13 +94,15 @@ pub reads_blanks : (s : State) → byte_step s 32 ≡ Some s → (n : ℕ) → r
 reads_blanks s e zero = refl
 reads_blanks s e (suc n) = ap (λ o. reads o (blanks n)) e ∙ reads_blanks s e n
 
+-- bytes of a kind are read to their end, where each is one byte more of a word or a group name
+reads_kind : (p : ℕ → Bool) (at_byte : ℕ → State) → ((k b : ℕ) → p b ≡ true → k < 32 → byte_step (at_byte k) b ≡ Some (at_byte (k + 1))) → (w : List ℕ) (k : ℕ) → AllByRecursion (λ b. p b ≡ true) w → k + length w ≤ 32 → reads (Some (at_byte k)) w ≡ Some (at_byte (k + length w))
+reads_kind p at_byte step [] k bs le = ap (λ n. Some (at_byte n)) (omega arith)
+reads_kind p at_byte step (b ∷ w) k bs le =
+    ap (λ o. reads o w) (step k b bs.0 (omega arith)) ∙ reads_kind p at_byte step w (k + 1) bs.1 (omega arith) ∙ ap (λ n. Some (at_byte n)) (omega arith)
+
 -- a word is read to its end
 reads_word : (a : At) (w : List ℕ) (k : ℕ) → WordBytes w → k + length w ≤ 32 → reads (Some (word a k)) w ≡ Some (word a (k + length w))
-reads_word a [] k bs le = ap (λ n. Some (word a n)) (omega arith)
-reads_word a (b ∷ w) k bs le =
-    ap (λ o. reads o w) (cond-true _ _ _ bs.0 ∙ cond-true _ _ _ (lt-ltb k 32 (omega arith)))
-    ∙ reads_word a w (k + 1) bs.1 (omega arith)
-    ∙ ap (λ n. Some (word a n)) (omega arith)
+reads_word a = reads_kind word_byte (word a) (λ k b is lt. cond-true _ _ _ is ∙ cond-true _ _ _ (lt-ltb k 32 lt))
 
 pub out_reads_word : (a : At) (w : List ℕ) → Word w → reads (Some (out a)) w ≡ Some (word (item a) (length w))
 out_reads_word a [] h = absurd (omega (arith, h.some))
@@ -109,16 +111,12 @@ out_reads_word a (b ∷ w) h =
 
 -- and so is a group name
 reads_name : (a : At) (g : List ℕ) (k : ℕ) → AllByRecursion (λ b. group_byte b ≡ true) g → k + length g ≤ 32 → reads (Some (name a k)) g ≡ Some (name a (k + length g))
-reads_name a [] k bs le = ap (λ n. Some (name a n)) (omega arith)
-reads_name a (b ∷ g) k bs le =
-    ap (λ o. reads o g) (cond-true _ _ _ bs.0 ∙ cond-true _ _ _ (lt-ltb k 32 (omega arith)))
-    ∙ reads_name a g (k + 1) bs.1 (omega arith)
-    ∙ ap (λ n. Some (name a n)) (omega arith)
+reads_name a = reads_kind group_byte (name a) (λ k b is lt. cond-true _ _ _ is ∙ cond-true _ _ _ (lt-ltb k 32 lt))
 
 pub brace_reads_name : (a : At) (g : List ℕ) → IsGroupName g → reads (Some (brace a)) g ≡ Some (name a (length g))
 brace_reads_name a [] h = absurd (omega (arith, h.some))
 brace_reads_name a (b ∷ g) h =
-    ap (λ o. reads o g) (cond-false _ _ _ (ne_eqb b 32 (λ e. clash (sym blank_ungrouped ∙ ap group_byte (sym e) ∙ h.bytes.0))) ∙ cond-true _ _ _ h.bytes.0)
+    ap (λ o. reads o g) (cond-false _ _ _ (apart group_byte b 32 h.bytes.0 blank_ungrouped) ∙ cond-true _ _ _ h.bytes.0)
     ∙ reads_name a g 1 h.bytes.1 (omega (arith, h.few))
     ∙ ap (λ n. Some (name a n)) (omega arith)
 

@@ -16,7 +16,7 @@ use Rattle.lists.specs.Faults.{kind_at, Unclosed, Slip, stuck, unclosed, ListFau
 use Rattle.lists.specs.Machine.{At, within, State, out, word, brace, name, braced, byte_step, reads, start}
 use Rattle.lists.proofs.Machine.{Rests, Lands, lands_none, reads_append, out_sign}
 use Rattle.lists.proofs.Viable.{item_lands, is_close, close_out}
-use Rattle.lists.proofs.Tallies.{depth, opens, closes, tally}
+use Rattle.lists.proofs.Tallies.{depth_at, depth, opens, closes, tally}
 use Rattle.lists.proofs.Segments.{drop_part}
 use Rattle.lists.proofs.Halts.{list_cases, blank_front}
 
@@ -24,12 +24,9 @@ lands_some : (o : Option State) (c : At) → Lands o c → (s : State) × ((o �
 lands_some None c l = absurd l
 lands_some (Some s) c l = (s, (refl, l))
 
-abbrev depth_of : At → ℕ
-depth_of (within d due) = d
-
-rests_depth : (s : State) (c : At) → Rests s c → depth s ≡ depth_of c
-rests_depth (out (within d due)) c r = ap depth_of r
-rests_depth (word (within d due) k) c r = ap depth_of r
+rests_depth : (s : State) (c : At) → Rests s c → depth s ≡ depth_at c
+rests_depth (out (within d due)) c r = ap depth_at r
+rests_depth (word (within d due) k) c r = ap depth_at r
 rests_depth (brace a) c r = absurd r
 rests_depth (name a k) c r = absurd r
 rests_depth (braced a) c r = absurd r

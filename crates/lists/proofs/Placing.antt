@@ -1,5 +1,5 @@
 -- The tokens of a text stand at one row of places, and no fault is among them.
-use Rattle.std.proofs.Common.{◌≡◌, ℕ, zero, suc, ◌+◌, ◌-◌, ◌<◌, ◌≤◌, Bool, true, List, [], ◌∷◌, ◌++◌, length, get_or, take, drop, Some, sym, refl, ap, ◌∙◌, subst, ⊎_elim, arith, length-drop, ne_eqb}
+use Rattle.std.proofs.Common.{◌≡◌, ℕ, zero, suc, ◌+◌, ◌-◌, ◌<◌, ◌≤◌, Bool, true, List, [], ◌∷◌, ◌++◌, length, get_or, take, drop, Some, sym, refl, ap, ◌∙◌, subst, ⊎_elim, arith, length-drop}
 use borrow.Author.Tests.{clash, eqb-false}
 use lib.ListN.{length-replicate}
 use Rattle.std.proofs.lemmas.Bool.{cases_lt}
@@ -9,14 +9,14 @@ use Rattle.std.specs.List.{AllByRecursion}
 use Rattle.faults.specs.declared.fault.Fault.{Fault}
 use Rattle.names.specs.Words.{word_byte, WordBytes}
 use Rattle.lists.specs.Trees.{Sign, atom, word, group}
-use Rattle.lists.specs.Bytes.{group_byte, IsGroupName, blanks, sign_of, part, Past, Run}
+use Rattle.lists.specs.Bytes.{group_byte, blanks, sign_of, part, Past, Run}
 use Rattle.lists.specs.Tokens.{Shows, shows_word, shows_mark, shows_group, Spells}
 use Rattle.lists.specs.Texts.{ListText, LawfulList}
 use Rattle.lists.specs.Lexemes.{Gap, is_blank, is_closing, TokenAt, NoSign, TokenFault, bad_byte, long_word, no_name, long_name, no_brace, Handed, all, first}
 use Rattle.lists.specs.Placed.{Placed, none, more, signs_of, OnePlacing}
 use Rattle.lists.proofs.Machine.{brace_out, blank_ungrouped, close_ungrouped, sign_apart, group_bytes}
 use Rattle.lists.proofs.Segments.{drop_part, part_length, part_one, past_at}
-use Rattle.lists.proofs.Handing.{handed_spells, spells_handed, run_at, gap_at}
+use Rattle.lists.proofs.Handing.{unblank, handed_spells, spells_handed, run_at, gap_at}
 
 module _ (text : List ℕ) where
   -- what holds of each byte of a part holds of the byte at a place in it
@@ -53,11 +53,7 @@ data Made (text : List ℕ) (place end : ℕ) : Sign → Type 0 where
   of_mark : {s : Sign} → sign_of (get_or text place 0) ≡ Some s → end ≡ place + 1 → Made text place end s
   of_group : {x y z : ℕ} → get_or text place 0 ≡ 123 → Gap text (place + 1) x → Braced text x y z → end ≡ z + 1 → Made text place end (group (part text x y))
 
--- a group name does not begin with a blank, and what follows it in braces is no part of it
-name_first : (g rest : List ℕ) → IsGroupName g → Past is_blank (g ++ rest)
-name_first [] rest h = absurd (omega (arith, h.some))
-name_first (b ∷ g) rest h = ne_eqb b 32 (λ e. clash (sym blank_ungrouped ∙ ap group_byte (sym e) ∙ h.bytes.0))
-
+-- what follows a group name in braces is no part of it
 name_past : (n : ℕ) (rest : List ℕ) → Past group_byte (blanks n ++ (125 ∷ rest))
 name_past zero rest = close_ungrouped
 name_past (suc n) rest = blank_ungrouped
@@ -94,7 +90,7 @@ module _ (text : List ℕ) (place end : ℕ) (some : place < end) (inside : end 
       let at-brace : drop z text ≡ 125 ∷ rest = drop_on text y m (blanks m) _ (blank m) past-name in
       let size : length text - z ≡ 1 + (length text - end) = sym (length-drop z text) ∙ ap length at-brace ∙ omega (arith, ap length f, length-drop end text) in
       subst (λ v. Made text place end (group v)) (let k : y - x ≡ length g = omega arith in ap (λ j. take j (drop x text)) k ∙ ap (take (length g)) at_name ∙ take_at g _ (length g) refl)
-      (of_group {z = z} (byte_at text place 123 _ whole) (gap_at text (place + 1) n _ (omega arith) at_gap (name_first g _ h))
+      (of_group {z = z} (byte_at text place 123 _ whole) (gap_at text (place + 1) n _ (omega arith) at_gap (unblank group_byte blank_ungrouped g _ h.some h.bytes))
       (record {
         name = run_at text group_byte x g _ (omega (arith, size)) at_name h.bytes (name_past m rest);
         some = omega (arith, h.some);

@@ -1,5 +1,6 @@
 -- Parts of a text, one after another.
-use Rattle.std.proofs.Common.{◌≡◌, ℕ, zero, suc, ◌+◌, ◌-◌, ◌<◌, ◌≤◌, Bool, true, false, eqb, List, [], ◌∷◌, ◌++◌, length, get_or, take, drop, sym, refl, ap, ◌∙◌, subst, arith, length-drop, take-append-drop, eqb-true}
+use Rattle.std.proofs.Common.{◌≡◌, ℕ, suc, ◌+◌, ◌-◌, ◌<◌, ◌≤◌, Bool, true, false, eqb, List, [], ◌∷◌, ◌++◌, length, get_or, take, drop, sym, refl, ap, ◌∙◌, subst, arith, length-drop, take-append-drop, eqb-true}
+use Rattle.std.proofs.Math.Seq.{take-add}
 use Rattle.std.proofs.lemmas.List.{drop_more, drop_all, drop-drop, take_more, length-take-le, get_or-drop}
 use Rattle.std.specs.List.{AllByRecursion}
 use Rattle.std.proofs.lemmas.Bool.{cond_both}
@@ -29,16 +30,7 @@ pub part_join : (text : List ℕ) (i j k : ℕ) → i ≤ j → j ≤ k → part
 part_join text i j k le le' =
     let n : (j - i) + (k - j) ≡ k - i = omega arith in
     let at : i + (j - i) ≡ j = omega arith in
-    sym (ap (λ m. take m (drop i text)) n) ∙ take_sum (j - i) (k - j) (drop i text) ∙ ap (λ u. part text i j ++ take (k - j) u) (drop-drop (j - i) i text ∙ ap (λ m. drop m text) at)
-  where
-    take_sum : (m n : ℕ) (t : List ℕ) → take (m + n) t ≡ take m t ++ take n (drop m t)
-    take_sum zero n t = let e : 0 + n ≡ n = omega arith in ap (λ l. take l t) e
-    take_sum (suc m) n [] = ap (λ l. take l []) (let e : suc m + n ≡ suc (m + n) = omega arith in e) ∙ nothing n
-      where
-        nothing : (n : ℕ) → ◌≡◌ {A = List ℕ} [] (take n [])
-        nothing zero = refl
-        nothing (suc n) = refl
-    take_sum (suc m) n (b ∷ t) = let e : suc m + n ≡ suc (m + n) = omega arith in ap (λ l. take l (b ∷ t)) e ∙ ap (λ u. b ∷ u) (take_sum m n t)
+    sym (ap (λ m. take m (drop i text)) n) ∙ take-add (j - i) (k - j) (drop i text) ∙ ap (λ u. part text i j ++ take (k - j) u) (drop-drop (j - i) i text ∙ ap (λ m. drop m text) at)
 
 pub part_none : (text : List ℕ) (i : ℕ) → part text i i ≡ []
 part_none text i = let e : i - i ≡ 0 = omega arith in ap (λ n. take n (drop i text)) e

@@ -27,10 +27,10 @@ run_both : (o p q : Option At) (s t : List Sign) → sign_run o s ≡ p → sign
 run_both o p q s t e f = sign_run_append o s t ∙ ap (λ r. sign_run r t) e ∙ f
 
 -- a bracket opens where fewer than 16 are open, and closes where one is
-step_open : (d : ℕ) (due : Bool) → d < 16 → sign_step (within d due) open_bracket ≡ Some (within (d + 1) true)
+pub step_open : (d : ℕ) (due : Bool) → d < 16 → sign_step (within d due) open_bracket ≡ Some (within (d + 1) true)
 step_open d due lt = cond-true _ _ _ (lt-ltb d 16 lt)
 
-step_close : (d : ℕ) → sign_step (within (d + 1) false) close_bracket ≡ Some (within d false)
+pub step_close : (d : ℕ) → sign_step (within (d + 1) false) close_bracket ≡ Some (within d false)
 step_close d = cond-true _ _ _ (lt-ltb 0 (d + 1) (omega arith)) ∙ ap (λ n. Some (within n false)) (omega arith)
 
 -- the signs of a tree are read, and after them no item is due

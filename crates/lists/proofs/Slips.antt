@@ -1,5 +1,5 @@
 -- Each fault of the check, from what the reader found.
-use Rattle.std.proofs.Common.{◌≡◌, ℕ, zero, suc, ◌+◌, ◌-◌, ◌<◌, ◌≤◌, Bool, true, false, cond, ◌||◌, eqb, ltb, List, [], ◌∷◌, ◌++◌, length, get_or, take, drop, Some, None, Err, Option, sym, refl, ap, ◌∙◌, subst, ⊎_elim, arith, le-ltb, lt-ltb, eqb-true}
+use Rattle.std.proofs.Common.{◌≡◌, ℕ, zero, suc, ◌+◌, ◌-◌, ◌<◌, ◌≤◌, Bool, true, false, cond, ◌||◌, eqb, ltb, List, [], ◌∷◌, ◌++◌, length, get_or, take, drop, Some, None, Err, Option, sym, refl, ap, ◌∙◌, subst, ⊎_elim, arith, le-ltb, eqb-true}
 use Rattle.std.proofs.lemmas.List.{take_all, take_rest}
 use Rattle.std.proofs.lemmas.List.Edits.{get_or-between}
 use Rattle.std.proofs.lemmas.Bool.{cond-true, cond-false, cases_Bool}
@@ -17,6 +17,7 @@ use Rattle.lists.specs.declared.token.Token.TheVariants.{Word as Token-Word, Dot
 use Rattle.lists.specs.Lexemes.{sign, Gap, is_blank, is_closing, TokenAt, NoSign, TokenFault, bad_byte, long_word, no_name, long_name, no_brace}
 use Rattle.lists.specs.Faults.{unmatched, kind_here, Slip, unclosed}
 use Rattle.lists.specs.Machine.{Closes, ItemStands, NotBlank, BracketOpens, At, within, sign_step, State, out, word, brace, name, braced, item, lift, signed, byte_step, reads, start, Stands, Leads, Enters, ListRead, ItemRead}
+use Rattle.lists.proofs.Signs.{step_open, step_close}
 use Rattle.lists.proofs.Machine.{Lands, reads_append, reads_blanks, out_sign, out_brace, out_reads_word, brace_reads_name, blank_ungrouped, sign_cases}
 use Rattle.lists.proofs.Viable.{reads_item, closes_item}
 use Rattle.lists.proofs.Segments.{part_length, part_join, part_none, part_one, part_more, past_at, every_append}
@@ -264,7 +265,7 @@ module _ (text : List ℕ) (marked : NotBlank text) where
     forward = omega arith;
     within_text = omega arith;
     state = out (within (d + 1) true);
-    reading = ap (reads (Some (out (within d due)))) (part_one text place lt) ∙ out_sign (within d due) (get_or text place 0) open_bracket (is_open _ is) ∙ ap lift (cond-true _ _ _ (lt-ltb d 16 few));
+    reading = ap (reads (Some (out (within d due)))) (part_one text place lt) ∙ out_sign (within d due) (get_or text place 0) open_bracket (is_open _ is) ∙ ap lift (step_open d due few);
     stands = refl;
   }
 
@@ -295,12 +296,9 @@ module _ (text : List ℕ) (marked : NotBlank text) where
   bracket_read place end d lt is few r = (omega (arith, (r.1 0 (omega arith)).forward), λ e due le. leads_join (bracket_leads place e due lt is (omega arith)) (r.1 e (omega arith)))
 
   -- what a closing bracket leads to
-  close_step : (e : ℕ) → sign_step (within (e + 1) false) close_bracket ≡ Some (within e false)
-  close_step e = let back : e + 1 - 1 ≡ e = omega arith in cond-true _ _ _ (lt-ltb 0 (e + 1) (omega arith)) ∙ ap (λ n. Some (within n false)) back
-
   pub close_read : (from at_place place end d : ℕ) (due : Bool) → ((e : ℕ) → e ≤ d → Leads text from at_place (within e true) (within e due)) → TokenAt text at_place place end close_bracket → 0 < d → due ≡ false → ListRead text from d true end
   close_read from at_place place end d due on t some had =
-      (some, λ e lt. leads_join (subst (λ x. Leads text from at_place (within (e + 1) true) (within (e + 1) x)) had (on (e + 1) (omega arith))) (token_leads text at_place place end close_bracket (within (e + 1) false) (within e false) t (close_step e)))
+      (some, λ e lt. leads_join (subst (λ x. Leads text from at_place (within (e + 1) true) (within (e + 1) x)) had (on (e + 1) (omega arith))) (token_leads text at_place place end close_bracket (within (e + 1) false) (within e false) t (step_close e)))
 
   pub close_refused : (from place end d : ℕ) (due : Bool) (f : Fault) → Leads text 0 from (within 0 true) (within d due) → TokenAt text from place end close_bracket → Closes place d due (Err f) → Slip text f
   close_refused from place end d due f p t c =

@@ -1,6 +1,5 @@
 -- What the machine's state tells of the text that it has read: whether braces are open, and how many brackets.
-use Rattle.std.proofs.Common.{◌≡◌, ℕ, ◌+◌, Bool, true, false, cond, eqb, ltb, List, [], ◌∷◌, Some, None, Option, sym, refl, ap, ◌∙◌, subst, arith, ltb-true, ne_eqb, eqb-true}
-use borrow.Author.Tests.{clash}
+use Rattle.std.proofs.Common.{◌≡◌, ℕ, ◌+◌, Bool, true, false, cond, eqb, ltb, List, [], ◌∷◌, Some, None, Option, sym, refl, ap, ◌∙◌, subst, arith, ltb-true, eqb-true}
 use Rattle.std.proofs.lemmas.Bool.{cond-true, cond-false, cond_both}
 use Rattle.names.specs.Words.{word_byte, count_of}
 use Rattle.names.proofs.Machine.{never}
@@ -8,7 +7,7 @@ use Rattle.lists.specs.Trees.{Sign, atom, dot, at, plus, any, open_bracket, clos
 use Rattle.lists.specs.Bytes.{group_byte, sign_of}
 use Rattle.lists.specs.Faults.{braced_after}
 use Rattle.lists.specs.Machine.{At, within, sign_step, State, out, word, brace, name, braced, item, lift, signed, out_step, braced_step, byte_step, reads}
-use Rattle.lists.proofs.Machine.{sign_cases}
+use Rattle.lists.proofs.Machine.{apart, sign_cases}
 
 abbrev pub is_brace : State → Bool
 is_brace (out a) = false
@@ -17,7 +16,7 @@ is_brace (brace a) = true
 is_brace (name a k) = true
 is_brace (braced a) = true
 
-abbrev depth_at : At → ℕ
+abbrev pub depth_at : At → ℕ
 depth_at (within d due) = d
 
 abbrev pub depth : State → ℕ
@@ -59,13 +58,10 @@ plain_at b k e = subst Plain (sym e)
 plain_blank : Plain 32
 plain_blank = record { braces = λ v. refl; brackets = λ d. refl }
 
-not_at : (p : ℕ → Bool) (b k : ℕ) → p b ≡ true → p k ≡ false → eqb b k ≡ false
-not_at p b k is out_of_lem = ne_eqb b k (λ e. clash (sym out_of_lem ∙ ap p (sym e) ∙ is))
-
 plain_of : (p : ℕ → Bool) (b : ℕ) → p b ≡ true → p 123 ≡ false → p 125 ≡ false → p 40 ≡ false → p 41 ≡ false → Plain b
 plain_of p b is h i j k = record {
-  braces = λ v. cond-false _ _ _ (not_at p b 123 is h) ∙ cond-false _ _ _ (not_at p b 125 is i);
-  brackets = λ d. ap {B = ℕ} (λ t. d + cond t 1 0) (not_at p b 40 is j) ∙ sym (ap {B = ℕ} (λ t. d + cond t 1 0) (not_at p b 41 is k));
+  braces = λ v. cond-false _ _ _ (apart p b 123 is h) ∙ cond-false _ _ _ (apart p b 125 is i);
+  brackets = λ d. ap {B = ℕ} (λ t. d + cond t 1 0) (apart p b 40 is j) ∙ sym (ap {B = ℕ} (λ t. d + cond t 1 0) (apart p b 41 is k));
 }
 
 plain_word : (b : ℕ) → word_byte b ≡ true → Plain b
@@ -104,16 +100,13 @@ signed_bar (within d false) = record { braces = refl; brackets = refl }
 signed_atom : (b : ℕ) (s : Sign) → ((d : ℕ) (due : Bool) → sign_step (within d due) s ≡ Some (within d false)) → Plain b → Signed b s
 signed_atom b s e p (within d due) = subst (λ o. Told b false d (lift o)) (sym (e d due)) (plain p (out (within d false)))
 
-plain_mark : (b : ℕ) → ((v : Bool) → Braces b v ≡ v) → ((d : ℕ) → d + cond (opens b) 1 0 ≡ d + cond (closes b) 1 0) → Plain b
-plain_mark b h k = record { braces = h; brackets = k }
-
 signed_byte : (b : ℕ) (s : Sign) → sign_of b ≡ Some s → Signed b s
 signed_byte =
     sign_cases Signed
-    (signed_atom 46 (atom dot) (λ d due. refl) (plain_mark 46 (λ v. refl) (λ d. refl)))
-    (signed_atom 64 (atom at) (λ d due. refl) (plain_mark 64 (λ v. refl) (λ d. refl)))
-    (signed_atom 43 (atom plus) (λ d due. refl) (plain_mark 43 (λ v. refl) (λ d. refl)))
-    (signed_atom 33 (atom any) (λ d due. refl) (plain_mark 33 (λ v. refl) (λ d. refl)))
+    (signed_atom 46 (atom dot) (λ d due. refl) (record { braces = λ v. refl; brackets = λ d. refl }))
+    (signed_atom 64 (atom at) (λ d due. refl) (record { braces = λ v. refl; brackets = λ d. refl }))
+    (signed_atom 43 (atom plus) (λ d due. refl) (record { braces = λ v. refl; brackets = λ d. refl }))
+    (signed_atom 33 (atom any) (λ d due. refl) (record { braces = λ v. refl; brackets = λ d. refl }))
     signed_open
     signed_close
     signed_star

@@ -1,6 +1,5 @@
 -- A text is cut into signs in one way, and so it reads as one tree: the cutting is a function of the text.
-use Rattle.std.proofs.Common.{◌≡◌, ℕ, zero, suc, true, cond, eqb, List, [], ◌∷◌, ◌++◌, Some, None, Option, sym, refl, ap, ◌∙◌, append_assoc, append-nil, arith, ne_eqb}
-use borrow.Author.Tests.{clash}
+use Rattle.std.proofs.Common.{◌≡◌, ℕ, zero, suc, true, cond, eqb, List, [], ◌∷◌, ◌++◌, Some, None, Option, sym, refl, ap, ◌∙◌, append_assoc, append-nil, arith}
 use Rattle.std.proofs.lemmas.Bool.{cond-true, cond-false}
 use Rattle.std.specs.List.{AllByRecursion}
 use Rattle.names.specs.Words.{word_byte, WordBytes}
@@ -9,7 +8,7 @@ use Rattle.lists.specs.Bytes.{group_byte, blanks, sign_of, Past}
 use Rattle.lists.specs.Tokens.{Shows, shows_word, shows_mark, shows_group, Spells, ends, next}
 use Rattle.lists.specs.Texts.{Reads}
 use Rattle.lists.proofs.Build.{fresh, full, Place, inside, build}
-use Rattle.lists.proofs.Machine.{blank_out, blank_ungrouped, close_ungrouped, sign_cases, group_bytes}
+use Rattle.lists.proofs.Machine.{apart, blank_out, blank_ungrouped, close_ungrouped, sign_cases, group_bytes}
 use Rattle.lists.proofs.UniqueTree.{build_alts, unique_alts}
 
 -- what the cutting stands in, with the bytes of it so far: nothing, a word, or braces
@@ -54,8 +53,8 @@ cut_word v (b ∷ w) rest bs p = cond-true _ _ _ bs.0 ∙ cut_word (v ++ (b ∷ 
 cut_name : (v g t : List ℕ) → AllByRecursion (λ b. group_byte b ≡ true) g → cut (braces v) (g ++ t) ≡ cut (braces (v ++ g)) t
 cut_name v [] t bs = ap (λ u. cut (braces u) t) (sym (append-nil v))
 cut_name v (b ∷ g) t bs =
-    cond-false _ _ _ (ne_eqb b 32 (λ e. clash (sym blank_ungrouped ∙ ap group_byte (sym e) ∙ bs.0)))
-    ∙ cond-false _ _ _ (ne_eqb b 125 (λ e. clash (sym close_ungrouped ∙ ap group_byte (sym e) ∙ bs.0)))
+    cond-false _ _ _ (apart group_byte b 32 bs.0 blank_ungrouped)
+    ∙ cond-false _ _ _ (apart group_byte b 125 bs.0 close_ungrouped)
     ∙ cut_name (v ++ (b ∷ [])) g t bs.1
     ∙ ap (λ u. cut (braces u) t) (append_assoc v (b ∷ []) g)
 
@@ -71,7 +70,7 @@ cut_group t = refl
 cut_shown : {u rest : List ℕ} {s : Sign} → Shows u rest s → cut outside (u ++ rest) ≡ s ∷ cut outside rest
 cut_shown (shows_word {w = []} h p) = absurd (omega (arith, h.some))
 cut_shown (shows_word {w = b ∷ w} {rest = rest} h p) =
-    cond-false _ _ _ (ne_eqb b 32 (λ e. clash (sym blank_out ∙ ap word_byte (sym e) ∙ h.bytes.0))) ∙ cond-true _ _ _ h.bytes.0 ∙ cut_word (b ∷ []) w rest h.bytes.1 p
+    cond-false _ _ _ (apart word_byte b 32 h.bytes.0 blank_out) ∙ cond-true _ _ _ h.bytes.0 ∙ cut_word (b ∷ []) w rest h.bytes.1 p
 cut_shown (shows_mark {b = b} {rest = rest} {s = s} is) = cut_mark rest b s is
 cut_shown (shows_group {g = g} {rest = rest} x y h) =
     ap (cut outside) (group_bytes g rest x y)

@@ -13,6 +13,7 @@ pub(crate) fn is_blank(b: u8) -> bool
 }
 
 /// Whether group names may hold the byte: the bytes of words, `$`, `/` and `.`.
+#[tactic(auto, unfolding(crate::specs::Bytes::group_byte))]
 pub(crate) fn is_group_byte(b: u8) -> bool
     ensures { result ≡ group_byte b }
 {

@@ -15,6 +15,7 @@ use names::word::{MAX_WORD_BYTES, is_word_byte};
 pub const MAX_GROUP_NAME_BYTES: usize = 32;
 
 // The token that a byte is by itself.
+#[tactic(auto, unfolding(crate::specs::Bytes::sign_of))]
 fn mark<'a>(b: u8) -> Option<Token<'a>>
     ensures { option_map sign result ≡ sign_of b }
 {
