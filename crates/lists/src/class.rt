@@ -17,7 +17,7 @@ pub(crate) fn is_blank(b: u8) -> bool
 pub(crate) fn is_group_byte(b: u8) -> bool
     ensures { result ≡ group_byte b }
 {
-    is_word_byte(b) || b == b'$' || b == b'/' || b == b'.'
+    is_word_byte(b) || matches!(b, b'$' | b'/' | b'.')
 }
 
 /// Where the run of bytes of a kind that begins at a place ends.

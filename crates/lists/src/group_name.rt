@@ -43,6 +43,7 @@ impl LawfulText for GroupName {
 }
 
 impl GroupName {
+    // Not `AsRef`: that name would not say which view of the name it is.
     /// The group name as a text.
     pub fn as_text(&self) -> &Text<MAX_GROUP_NAME_BYTES>
         ensures { result.now ≡ self.now.text }

@@ -14,7 +14,7 @@ use names::word::{MAX_WORD_BYTES, is_word_byte};
 /// The most bytes that a group name has.
 pub const MAX_GROUP_NAME_BYTES: usize = 32;
 
-// The token that a byte is by itself.
+// The token that a byte is by itself. Not `TryFrom`: a byte of a longer token is none, and yet no error.
 #[tactic(auto, unfolding(crate::specs::Bytes::sign_of))]
 fn mark<'a>(b: u8) -> Option<Token<'a>>
     ensures { option_map sign result ≡ sign_of b }
@@ -66,27 +66,19 @@ impl<'a> Tokens<'a> {
         if place == self.text.len() {
             return Ok(None);
         }
-        self.token_at(place).map(Some)
-    }
-
-    // The token that begins at a place.
-    fn token_at(&self, place: usize) -> Result<Lexeme<'a>, Fault>
-        requires { SignBegins self.now.text.now self.now.at place }
-        ensures { FirstToken self.now.text.now self.now.at result }
-    {
         let b = self.text[place];
         if is_word_byte(b) {
-            return self.word_at(place);
+            return self.word_at(place).map(Some);
         }
         if b == b'{' {
-            return self.group_at(place);
+            return self.group_at(place).map(Some);
         }
         let token = mark(b).ok_or(Fault::at(Kind::ByteNotAllowedInList, place))?;
-        Ok(Lexeme {
+        Ok(Some(Lexeme {
             token,
             place,
             end: place + 1,
-        })
+        }))
     }
 
     // The word at a place.

@@ -10,6 +10,7 @@ use super::token::Lexeme;
 /// A walk over the tokens of a lawful list, from left to right.
 #[derive(Drop)]
 pub struct ListTokens<'a> {
+    // Not a reader in one field: clauses of the crates above name these two, and would be no plainer through it.
     pub(crate) text: &'a [u8],
     pub(crate) at: usize,
     ghost readable: { ∥ ((ps : List (ℕ × Sign)) × Placed text.now at ps) ∥₁ },
