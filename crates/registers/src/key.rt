@@ -27,23 +27,6 @@ impl<const N: usize> Key for Text<N> {
     ghost view = { λ t. shown t };
 
     fn is_before(&self, other: &Text<N>) -> bool {
-        bytes_before(self.as_bytes(), other.as_bytes())
+        self.as_bytes() < other.as_bytes()
     }
-}
-
-// Whether a comes before b in the order of a dictionary.
-fn bytes_before(a: &[u8], b: &[u8]) -> bool
-    ensures { result ≡ before a.now b.now }
-{
-    let mut i = 0;
-    while i < a.len() && i < b.len() {
-        if a[i] < b[i] {
-            return true;
-        }
-        if b[i] < a[i] {
-            return false;
-        }
-        i += 1;
-    }
-    a.len() < b.len()
 }

@@ -1,14 +1,13 @@
 //! The register, and what may be done with it.
-ghost use Rattle.std.specs.Prelude.{◌≡◌, ◌+◌, [], length, Some, None, MatchOption, MatchResult};
+ghost use Rattle.std.specs.Prelude.{◌≡◌, ◌+◌, ◌≤◌, true, false, [], length, take, Some, None, MatchOption, MatchResult};
 ghost use Rattle.registers.specs.Rows.{Rising, found};
-ghost use Rattle.registers.specs.Registers.{rows_in_use, Puts, Refuses, Removes, Kept, Same};
 
 use super::key::Key;
 use super::record::Record;
-use super::row::{insert_at, place, remove_at};
+use super::row::{insert_at, remove_at};
 
 /// No row is left for a new key.
-#[derive(Clone, Copy)]
+#[derive(Clone, Copy, Debug, PartialEq, Eq)]
 pub struct Full;
 
 /// Records in rising order of their keys, each key once. They are the first `used` rows of a lent slice.
@@ -16,9 +15,16 @@ pub struct Full;
 pub struct Register<'a, R: Record> {
     pub(crate) rows: &'a mut [R],
     pub(crate) used: usize,
+    pub ghost fits: { used ≤ length rows.now },
+    pub ghost ordered: { Rising R.keyed (take used rows.now) },
 }
 
 impl<'a, R: Record> Register<'a, R> {
+    ghost use Rattle.registers.specs.Registers.{rows_in_use, Puts, Refuses, Removes, Kept, Same};
+    ghost use Rattle.registers.specs.Places.{There, Due};
+    ghost use Rattle.registers.specs.Order.{before};
+    ghost use Rattle.std.specs.List.Sorted.{IsPartitionPoint};
+
     /// A register with no row in use.
     pub fn new(rows: &'a mut [R]) -> Register<'a, R>
         ensures none { rows_in_use result ≡ [] }
@@ -31,12 +37,7 @@ impl<'a, R: Record> Register<'a, R> {
     pub fn in_use(&self) -> &[R]
         ensures { result.now ≡ rows_in_use self.now }
     {
-        let rows = &*self.rows;
-        if self.used < rows.len() {
-            &rows[0..self.used]
-        } else {
-            rows
-        }
+        &self.rows[..self.used]
     }
 
     /// How many rows are in use.
@@ -48,53 +49,59 @@ impl<'a, R: Record> Register<'a, R> {
 
     /// The record that has the key.
     pub fn find(&self, key: &R::Key) -> Option<&R>
-        ensures { Rising R.keyed (rows_in_use self.now) → MatchOption result (found R.keyed (rows_in_use self.now) (R.Key.view key.now) ≡ None) (λ x. found R.keyed (rows_in_use self.now) (R.Key.view key.now) ≡ Some x.now) }
+        ensures { MatchOption result (found R.keyed (rows_in_use self.now) (R.Key.view key.now) ≡ None) (λ x. found R.keyed (rows_in_use self.now) (R.Key.view key.now) ≡ Some x.now) }
     {
-        let rows = self.in_use();
-        match place(rows, key) {
-            Ok(at) => Some(&rows[at]),
-            Err(_) => None,
-        }
+        let at = self.place(key).ok()?;
+        Some(&self.in_use()[at])
     }
 
     /// Puts a record in its place. One with the same key makes way for it.
     pub fn put(&mut self, row: R) -> Result<(), Full>
-        ensures order { Rising R.keyed (rows_in_use self.old) → Rising R.keyed (rows_in_use self.new) }
-        ensures table { Rising R.keyed (rows_in_use self.old) → MatchResult result (λ _. Puts R.keyed row self.old self.new) (λ _. Refuses R.keyed row self.old) }
+        ensures table { MatchResult result (λ _. Puts R.keyed row self.old self.new) (λ _. Refuses R.keyed row self.old) }
         ensures memory { MatchResult result (λ _. Kept self.old self.new) (λ _. Same self.old self.new) }
     {
-        let used = self.len();
-        match place(self.in_use(), row.key()) {
-            Ok(at) => {
-                self.rows[at] = row;
-                Ok(())
-            }
+        match self.place(row.key()) {
+            Ok(at) => self.rows[at] = row,
             Err(at) => {
-                if used >= self.rows.len() {
+                if self.used == self.rows.len() {
                     return Err(Full);
                 }
-                insert_at(self.rows, used, at, row);
-                self.used = used + 1;
-                Ok(())
+                insert_at(self.rows, self.used, at, row);
+                self.used += 1;
             }
         }
+        Ok(())
     }
 
     /// Takes the record that has the key out, and answers it. Its row is free again.
     pub fn remove(&mut self, key: &R::Key) -> Option<R>
-        ensures order { Rising R.keyed (rows_in_use self.old) → Rising R.keyed (rows_in_use self.new) }
-        ensures table { Rising R.keyed (rows_in_use self.old) → Removes R.keyed (R.Key.view key.now) self.old self.new result }
+        ensures table { Removes R.keyed (R.Key.view key.now) self.old self.new result }
         ensures memory { MatchOption result (Same self.old self.new) (λ _. Kept self.old self.new × (length (rows_in_use self.new) + 1 ≡ length (rows_in_use self.old))) }
     {
-        let used = self.len();
-        match place(self.in_use(), key) {
-            Ok(at) => {
-                let row = self.in_use()[at];
-                remove_at(self.rows, used, at);
-                self.used = used - 1;
-                Some(row)
-            }
-            Err(_) => None,
+        let at = self.place(key).ok()?;
+        let row = self.rows[at];
+        remove_at(self.rows, self.used, at);
+        self.used -= 1;
+        Some(row)
+    }
+
+    // The place of the row that has the key, or the place where such a row is due.
+    fn place(&self, key: &R::Key) -> Result<usize, usize>
+        ensures { MatchResult result (λ at. There R.keyed (rows_in_use self.now) (R.Key.view key.now) at) (λ at. Due R.keyed (rows_in_use self.now) (R.Key.view key.now) at) }
+    {
+        let at = self.count_before(key);
+        match self.in_use().get(at) {
+            Some(row) if !key.is_before(row.key()) => Ok(at),
+            _ => Err(at),
         }
+    }
+
+    // How many rows have keys that come before the key: the first ones have, and no others.
+    fn count_before(&self, key: &R::Key) -> usize
+        ensures bound { result ≤ length (rows_in_use self.now) }
+        ensures parted { IsPartitionPoint (λ row. before (R.keyed row) (R.Key.view key.now) ≡ true) (λ row. before (R.keyed row) (R.Key.view key.now) ≡ false) (rows_in_use self.now) result }
+    {
+        self.in_use()
+            .partition_point(|row| row.key().is_before(key))
     }
 }

@@ -1,20 +1,21 @@
-use Rattle.std.proofs.Common.{Some, sym, ap, ◌∙◌, subst}
 use Rattle.registers.specs.Registers.{rows_in_use}
-use Rattle.registers.specs.Places.{Due}
-use Rattle.registers.specs.Rows.{found}
+use Rattle.registers.proofs.Steps.{there_kept, due_lost}
 use Rattle.registers.proofs.Tables.{there_some, due_none}
 use Rattle.registers.proofs.register.Register.find.Goals as goal
 
-pub returns-in-Ok : goal.returns-in-Ok
-returns-in-Ok g c h =
+pub returns-in_err-at : goal.returns-in_err-at
+returns-in_err-at g c =
     let key = g.R.Record.keyed in
+    let rows = rows_in_use c.args.self.now in
     let k = g.R.Key.Key.view c.args.key.now in
-    let row = c.index-rows-at.result in
-    let some = there_some key c.in_use-rows.result.now k c.in-Ok.at c.in-Ok.ensures row in
-    ap (λ l. found key l k) (sym c.in_use-rows.ensures) ∙ some ∙ ap Some (sym c.index-rows-at.is)
+    let due = due_lost key rows k c.place.result c.in_err-at.ensures.value c.place.ensures in
+    rw c.from_residual.ensures (due_none key rows k due.0 due.1 c.args.self.now.ordered)
 
-pub returns-in-Err : goal.returns-in-Err
-returns-in-Err g c h =
+pub returns : goal.returns
+returns g c =
     let key = g.R.Record.keyed in
+    let rows = rows_in_use c.args.self.now in
     let k = g.R.Key.Key.view c.args.key.now in
-    due_none key (rows_in_use c.args.self.now) k c.in-Err.field-0 (subst (λ l. Due key l k c.in-Err.field-0) c.in_use-rows.ensures c.in-Err.ensures) h
+    let at = c.in_ok-at.at in
+    let there = there_kept key rows k c.place.result at c.in_ok-at.ensures.value c.place.ensures in
+    rw (c.index-in_use-at.is, c.in_use.ensures) (there_some key rows k at there c.index-in_use-at.result)

@@ -1,2 +1,0 @@
-pub mod Gates
-pub mod Programs
