@@ -1,5 +1,5 @@
 -- What a register finds is what its table has.
-use Rattle.std.proofs.Common.{◌≡◌, ℕ, ◌<◌, Bool, true, false, cond, ◌&&◌, eqb, List, [], ◌∷◌, length, Some, None, Option, sym, refl, ap, ◌∙◌, ⊎_elim, arith, length-take, Bor, MatchOption}
+use Rattle.std.proofs.Common.{◌≡◌, ℕ, ◌<◌, Bool, true, false, cond, List, [], ◌∷◌, length, Some, None, Option, sym, refl, ap, ◌∙◌, ⊎_elim, arith, length-take, Bor, MatchOption}
 use Rattle.std.proofs.lemmas.Slice.Eq.{bytes_eq-Decides}
 use Rattle.std.proofs.lemmas.Bool.{cond-false, cases_Bool}
 use Rattle.std.specs.Option.{option_map}
@@ -11,16 +11,6 @@ use Rattle.books.specs.declared.row.Group.{Group}
 use Rattle.books.specs.Tables.{text_of}
 use Rattle.books.specs.Groups.{name_of, table_of}
 
-same_bytes : (x y : List ℕ) → same x y ≡ bytes_eq x y
-same_bytes [] [] = refl
-same_bytes [] (b ∷ y) = refl
-same_bytes (a ∷ x) [] = refl
-same_bytes (a ∷ x) (b ∷ y) = ap (λ v. cond (eqb a b) v false) (same_bytes x y) ∙ by_test (eqb a b) (bytes_eq x y)
-  where
-    by_test : (t v : Bool) → cond t v false ≡ (t && v)
-    by_test true v = refl
-    by_test false v = refl
-
 mapped_cond : (b : Bool) (x y : Option Group) → option_map (λ g. shown g.text) (cond b x y) ≡ cond b (option_map (λ g. shown g.text) x) (option_map (λ g. shown g.text) y)
 mapped_cond true x y = refl
 mapped_cond false x y = refl
@@ -28,8 +18,7 @@ mapped_cond false x y = refl
 pub text_found : (gs : List Group) (k : List ℕ) → text_of (table_of gs) k ≡ option_map (λ g. shown g.text) (found name_of gs k)
 text_found [] k = refl
 text_found (g ∷ gs) k =
-    let one : bytes_eq (name_of g) k ≡ same (name_of g) k = sym (same_bytes (name_of g) k) in
-    (λ i. cond (one i) (Some (shown g.text)) (text_found gs k i)) ∙ sym (mapped_cond (same (name_of g) k) (Some g) (found name_of gs k))
+    ap (cond (same (name_of g) k) (Some (shown g.text))) (text_found gs k) ∙ sym (mapped_cond (same (name_of g) k) (Some g) (found name_of gs k))
 
 -- no group has a name of more than 32 bytes
 pub text_long : (gs : List Group) (k : List ℕ) → 32 < length k → text_of (table_of gs) k ≡ None

@@ -1,6 +1,6 @@
 -- What a book of groups means: a finite table from group names to texts.
 use Rattle.std.specs.Prelude.{ℕ, ◌≤◌, Bool, false, cond, not, List, [], ◌∷◌, ◌++◌, length, Some, None, Option, ◌==◌}
-use Rattle.std.specs.List.{AllByRecursion}
+use Rattle.std.specs.List.{AllByRecursion, filter}
 use Rattle.std.specs.Str.{bytes_eq}
 use Rattle.lists.specs.Bytes.{IsGroupName}
 
@@ -32,8 +32,7 @@ begins byte (b ∷ bs) = b == byte
 
 -- the rows of a table whose names pass a test
 abbrev pub keep : (List ℕ → Bool) → Table → Table
-keep p [] = []
-keep p (e ∷ es) = cond (p e.name) (e ∷ keep p es) (keep p es)
+keep p = filter (λ e. p e.name)
 
 -- names that begin with the byte are looked up in the first table, all others in the second
 abbrev pub divided : ℕ → Table → Table → Table

@@ -19,28 +19,24 @@ use texts::Text;
 impl<'a> TableBook<'a> {
     /// Adds a group, in place of one that has its name. The text may have any content.
     pub fn add(&mut self, name: &[u8], text: &[u8]) -> Result<(), Fault>
-        ensures { MatchResult result (λ _. Added (table_of (rows_in_use self.old.groups)) (table_of (rows_in_use self.new.groups)) name.now text.now × Kept self.old.groups self.new.groups) (λ f. AddFault (table_of (rows_in_use self.old.groups)) name.now text.now f × Same self.old.groups self.new.groups) }
+        ensures table { MatchResult result (λ _. Added (table_of (rows_in_use self.old.groups)) (table_of (rows_in_use self.new.groups)) name.now text.now) (λ f. AddFault (table_of (rows_in_use self.old.groups)) name.now text.now f) }
+        ensures memory { MatchResult result (λ _. Kept self.old.groups self.new.groups) (λ _. Same self.old.groups self.new.groups) }
     {
         let name = GroupName::new(name)?;
-        let Some(text) = Text::copy_of(text) else {
-            return Err(Fault::at(Kind::TextTooLong, MAX_LIST_BYTES));
-        };
-        match self.groups.put(Group { name, text }) {
-            Ok(()) => Ok(()),
-            Err(_) => Err(Fault::at(Kind::NoRowFree, 0)),
-        }
+        let text = Text::copy_of(text).ok_or(Fault::at(Kind::TextTooLong, MAX_LIST_BYTES))?;
+        self.groups
+            .put(Group { name, text })
+            .map_err(|_| Fault::at(Kind::NoRowFree, 0))
     }
 
     /// Removes the group that has the name.
     pub fn remove(&mut self, name: &[u8]) -> Result<(), Fault>
-        ensures { MatchResult result (λ _. Removed (table_of (rows_in_use self.old.groups)) (table_of (rows_in_use self.new.groups)) name.now × Kept self.old.groups self.new.groups) (λ f. (f ≡ fault GroupNotInBook 0) × (text_of (table_of (rows_in_use self.old.groups)) name.now ≡ None) × Same self.old.groups self.new.groups) }
+        ensures table { MatchResult result (λ _. Removed (table_of (rows_in_use self.old.groups)) (table_of (rows_in_use self.new.groups)) name.now) (λ f. (f ≡ fault GroupNotInBook 0) × (text_of (table_of (rows_in_use self.old.groups)) name.now ≡ None)) }
+        ensures memory { MatchResult result (λ _. Kept self.old.groups self.new.groups) (λ _. Same self.old.groups self.new.groups) }
     {
-        let Some(key) = Text::copy_of(name) else {
-            return Err(Fault::at(Kind::GroupNotInBook, 0));
-        };
-        match self.groups.remove(&key) {
-            Some(_) => Ok(()),
-            None => Err(Fault::at(Kind::GroupNotInBook, 0)),
-        }
+        let lacking = Fault::at(Kind::GroupNotInBook, 0);
+        let key = Text::copy_of(name).ok_or(lacking)?;
+        self.groups.remove(&key).ok_or(lacking)?;
+        Ok(())
     }
 }

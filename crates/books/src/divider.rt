@@ -30,7 +30,7 @@ impl<A: Book, B: Book> Divider<A, B> {
     fn is_first(&self, name: &[u8]) -> bool
         ensures { result ≡ begins self.now.byte name.now }
     {
-        name.len() > 0 && name[0] == self.byte
+        name.first() == Some(&self.byte)
     }
 }
 

@@ -2,7 +2,6 @@
 ghost use Rattle.texts.specs.Shown.{shown};
 
 use super::row::Group;
-use lists::group_name::GroupName;
 use lists::reader::MAX_GROUP_NAME_BYTES;
 use registers::record::Record;
 use texts::Text;

@@ -13,12 +13,9 @@ impl Group {
     pub fn spare() -> Group
         ensures { (name_of result ≡ codes "-") × (shown result.text ≡ []) }
     {
-        let Ok(name) = GroupName::new(b"-") else {
-            unreachable()
-        };
-        let Some(text) = Text::copy_of(b"") else {
-            unreachable()
-        };
-        Group { name, text }
+        Group {
+            name: GroupName::new(b"-").unwrap(),
+            text: Text::copy_of(b"").unwrap(),
+        }
     }
 }

@@ -1,18 +1,13 @@
 //! A book of 64 rows.
-ghost use Rattle.std.specs.Prelude.{◌≡◌, true, [], length, Some, None, MatchOption, MatchResult};
-ghost use Rattle.registers.specs.Rows.{Rising};
+ghost use Rattle.std.specs.Prelude.{◌≡◌, [], length, Some, None, MatchOption};
 ghost use Rattle.registers.specs.Registers.{rows_in_use};
 ghost use Rattle.texts.specs.Shown.{shown};
-ghost use Rattle.books.specs.Tables.{Table, text_of};
-ghost use Rattle.books.specs.Groups.{name_of, table_of, groups_lawful};
+ghost use Rattle.books.specs.Tables.{text_of};
+ghost use Rattle.books.specs.Groups.{table_of, groups_lawful};
 
 use super::book::Book;
 use super::not_copied::NotCopied;
 use super::row::Group;
-use faults::fault::Fault;
-use faults::kind::Kind;
-use lists::group_name::GroupName;
-use lists::list::MAX_LIST_BYTES;
 use registers::register::Register;
 use texts::Text;
 
@@ -23,7 +18,6 @@ pub const TABLE_ROWS: usize = 64;
 #[derive(Drop)]
 pub struct TableBook<'a> {
     pub(crate) groups: Register<'a, Group>,
-    ghost rising: { Rising name_of (rows_in_use groups) },
     ghost rows: { length groups.rows.now ≡ 64 },
 }
 
@@ -42,10 +36,8 @@ impl<'a> TableBook<'a> {
     fn find(&self, name: &[u8]) -> Option<&Group>
         ensures { MatchOption result (text_of (table_of (rows_in_use self.now.groups)) name.now ≡ None) (λ g. text_of (table_of (rows_in_use self.now.groups)) name.now ≡ Some (shown g.now.text)) }
     {
-        match Text::copy_of(name) {
-            Some(key) => self.groups.find(&key),
-            None => None,
-        }
+        let key = Text::copy_of(name)?;
+        self.groups.find(&key)
     }
 }
 
@@ -55,22 +47,16 @@ impl<'a> Book for TableBook<'a> {
     ghost lawful = { λ b. groups_lawful (rows_in_use b.groups) };
 
     fn text_len(&self, name: &[u8]) -> Option<usize> {
-        match self.find(name) {
-            Some(group) => Some(group.text.as_bytes().len()),
-            None => None,
-        }
+        self.find(name).map(|group| group.text.as_bytes().len())
     }
 
     fn copy_text(&self, name: &[u8], buffer: &mut [u8]) -> Result<usize, NotCopied> {
-        let Some(group) = self.find(name) else {
-            return Err(NotCopied::NameLacking);
-        };
+        let group = self.find(name).ok_or(NotCopied::NameLacking)?;
         let text = group.text.as_bytes();
-        let len = text.len();
-        if len > buffer.len() {
+        if text.len() > buffer.len() {
             return Err(NotCopied::BufferTooShort);
         }
-        buffer[0..len].copy_from_slice(text);
-        Ok(len)
+        buffer[..text.len()].copy_from_slice(text);
+        Ok(text.len())
     }
 }

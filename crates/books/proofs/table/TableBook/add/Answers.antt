@@ -1,35 +1,31 @@
-use Rattle.std.proofs.Common.{sym, refl, ◌∙◌, subst}
+use Rattle.std.proofs.Common.{◌≡◌, rules, ◌∙◌}
+use Rattle.std.proofs.lemmas.Option.{MatchOption-at_some, MatchOption-at_none}
 use Rattle.std.proofs.lemmas.Result.{err_from_is_err_and}
+use Rattle.faults.specs.declared.kind.Kind.TheVariants.{NoRowFree}
+use Rattle.names.specs.Faults.{fault}
 use Rattle.registers.specs.Registers.{rows_in_use}
-use Rattle.books.specs.Groups.{table_of}
-use Rattle.books.specs.Changes.{AddFault, bad_name, long_text, no_row}
-use Rattle.books.proofs.Changing.{puts_added, no_text, table_length}
+use Rattle.books.specs.Changes.{bad_name, long_text, no_row}
+use Rattle.books.proofs.Changing.{puts_added, no_text, table_length, ok_or_err, map_err_keeps}
 use Rattle.books.proofs.table.TableBook.add.Goals as goal
 
-pub returns-in_err-name : goal.returns-in_err-name
-returns-in_err-name c =
+pub returns-in_err-name-clause-table : goal.returns-in_err-name-clause-table
+returns-in_err-name-clause-table c =
     let p = err_from_is_err_and c.from_residual.result c.from_residual.ensures.1 in
-    rw (p.1, p.2) (bad_name c.in_err-name.ensures.told, record { rows = refl; used = refl })
+    rw (p.1, p.2) (bad_name c.in_err-name.ensures.told)
 
-pub returns-in_default : goal.returns-in_default
-returns-in_default c =
-    let old = table_of (rows_in_use c.args.self.now.groups) in
-    let named = c.in_ok-name.ensures in
-    (subst (AddFault old c.args.name.now c.args.text.now) (sym c.at.ensures) (long_text named.1.lawful c.in_default.ensures), record { rows = refl; used = refl })
+pub returns-in_err-text-clause-table : goal.returns-in_err-text-clause-table
+returns-in_err-text-clause-table c =
+    let p = err_from_is_err_and c.from_residual-in_err-text.result c.from_residual-in_err-text.ensures.1 in
+    let none = ok_or_err c.copy_of.result c.at.result c.in_err-text.field-0.0 c.in_err-text.ensures.value in
+    rw (p.1, p.2, none.1, c.at.ensures) (long_text c.in_ok-name.ensures.1.lawful (MatchOption-at_none _ _ none.0 c.copy_of.ensures))
 
-pub returns-in-Ok : goal.returns-in-Ok
-returns-in-Ok c =
+pub returns-clause-table : goal.returns-clause-table
+returns-clause-table c =
     let book = c.args.self.now in
-    let put = c.in-Ok.ensures in
-    (puts_added book.groups c.put.new.self _ c.args.name.now c.args.text.now c.in_ok-name.ensures.0 c.in-Some.ensures.1 (put.table book.rising), put.memory)
-
-pub returns-in-Err : goal.returns-in-Err
-returns-in-Err c =
-    let book = c.args.self.now in
-    let old = table_of (rows_in_use book.groups) in
     let named = c.in_ok-name.ensures in
-    let put = c.in-Err.ensures in
-    let refused = put.table book.rising in (
-      subst (AddFault old c.args.name.now c.args.text.now) (sym c.at-in-Err.ensures) (no_row named.1.lawful c.in-Some.ensures.0 (no_text book.groups _ c.args.name.now named.0 refused.fresh) (table_length (rows_in_use book.groups) ∙ refused.full ∙ book.rows)),
-      put.memory,
-    )
+    let held = MatchOption-at_some _ _ c.in_ok-text.text c.in_ok-text.ensures.ok_part c.copy_of.ensures in
+    map_err_keeps c.put.result c.map_err.result c.map_err.ensures.cases c.put.ensures.table
+    (λ put. puts_added book.groups c.put.new.self _ c.args.name.now c.args.text.now named.0 held.1 put)
+    (λ full f made refused.
+    let is : f ≡ fault NoRowFree 0 = search rules in
+    rw is (no_row named.1.lawful held.0 (no_text book.groups _ c.args.name.now named.0 refused.fresh) (table_length (rows_in_use book.groups) ∙ refused.full ∙ book.rows)))

@@ -1,21 +1,26 @@
-use Rattle.std.proofs.Common.{sym, refl}
+use Rattle.std.proofs.Common.{sym, ◌∙◌}
+use Rattle.std.proofs.lemmas.Option.{MatchOption-at_some, MatchOption-at_none}
+use Rattle.std.proofs.lemmas.Result.{err_from_is_err_and}
 use Rattle.texts.specs.Shown.{shown}
 use Rattle.registers.specs.Registers.{rows_in_use}
 use Rattle.books.proofs.Lookups.{text_long}
-use Rattle.books.proofs.Changing.{removes_removed, no_text}
+use Rattle.books.proofs.Changing.{removes_removed, no_text, ok_or_err}
 use Rattle.books.proofs.table.TableBook.remove.Goals as goal
 
-pub returns-in_default : goal.returns-in_default
-returns-in_default c = (c.at.ensures, text_long (rows_in_use c.args.self.now.groups) c.args.name.now c.in_default.ensures, record { rows = refl; used = refl })
+pub returns-in_err-key-clause-table : goal.returns-in_err-key-clause-table
+returns-in_err-key-clause-table c =
+    let p = err_from_is_err_and c.from_residual.result c.from_residual.ensures.1 in
+    let none = ok_or_err c.copy_of.result c.at-lacking.result c.in_err-key.field-0.0 c.in_err-key.ensures.value in
+    rw (p.1, p.2, none.1) (c.at-lacking.ensures, text_long (rows_in_use c.args.self.now.groups) c.args.name.now (MatchOption-at_none _ _ none.0 c.copy_of.ensures))
 
-pub returns-in-Some-remove : goal.returns-in-Some-remove
-returns-in-Some-remove c =
-    let book = c.args.self.now in
-    let gone = c.in-Some-remove.ensures in
-    (removes_removed book.groups c.remove.new.self (shown c.in-Some.key) c.args.name.now c.in-Some-remove.field-0 c.in-Some.ensures.1 (gone.table book.rising), gone.memory.0)
+pub returns-in_err-ok_or-clause-table : goal.returns-in_err-ok_or-clause-table
+returns-in_err-ok_or-clause-table c =
+    let p = err_from_is_err_and c.from_residual-in_err-ok_or.result c.from_residual-in_err-ok_or.ensures.1 in
+    let none = ok_or_err c.remove.result c.at-lacking.result c.in_err-ok_or.field-0.0 c.in_err-ok_or.ensures.value in
+    let held = MatchOption-at_some _ _ c.in_ok-key.key c.in_ok-key.ensures.ok_part c.copy_of.ensures in
+    rw (p.1, p.2, none.1) (c.at-lacking.ensures, no_text c.args.self.now.groups (shown c.in_ok-key.key) c.args.name.now held.1 (sym c.remove.ensures.table.answered ∙ none.0))
 
-pub returns-in-None : goal.returns-in-None
-returns-in-None c =
-    let book = c.args.self.now in
-    let kept = c.in-None.ensures in
-    (c.at-in-None.ensures, no_text book.groups (shown c.in-Some.key) c.args.name.now c.in-Some.ensures.1 (sym (kept.table book.rising).answered), kept.memory)
+pub returns-clause-table : goal.returns-clause-table
+returns-clause-table c =
+    let held = MatchOption-at_some _ _ c.in_ok-key.key c.in_ok-key.ensures.ok_part c.copy_of.ensures in
+    removes_removed c.args.self.now.groups c.remove.new.self (shown c.in_ok-key.key) c.args.name.now c.in_ok-ok_or.field-0 held.1 (rw (← c.in_ok-ok_or.ensures.ok_part) c.remove.ensures.table)
