@@ -1,4 +1,4 @@
-//! Registers in use, with tests: gates by number and programs by name. Each owner keeps its rows rising.
+//! Registers in use, with tests: gates by number and programs by name.
 #![tactic(auto)]
 
 pub mod gate;
@@ -6,9 +6,10 @@ pub mod program;
 
 #[cfg(test)]
 mod tests {
-    use super::gate::{Gate, Gates};
-    use super::program::{Program, Programs};
+    use super::gate::Gate;
+    use super::program::Program;
     use registers::key::Key;
+    use registers::register::Register;
     use texts::Text;
 
     // What the rows hold at first.
@@ -18,36 +19,25 @@ mod tests {
     };
 
     // Whether the gates are these numbers, from the first row on.
-    fn are(gates: &Gates<'_>, numbers: &[u32]) -> bool {
-        let rows = gates.rows();
-        if rows.len() != numbers.len() {
-            return false;
-        }
-        for i in 0..numbers.len() {
-            if i < rows.len() && rows[i].number != numbers[i] {
-                return false;
-            }
-        }
-        true
+    fn are(gates: &Register<'_, Gate>, numbers: &[u32]) -> bool {
+        let rows = gates.in_use().iter().map(|gate| &gate.number);
+        rows.eq(numbers)
     }
 
     // Whether the gate with the number is open so far.
-    fn is_open(gates: &Gates<'_>, number: u32, height: u8) -> bool {
-        match gates.find(number) {
-            Some(gate) => gate.number == number && gate.height == height,
-            None => false,
-        }
+    fn is_open(gates: &Register<'_, Gate>, number: u32, height: u8) -> bool {
+        gates.find(&number) == Some(&Gate { number, height })
     }
 
     // Puts a gate, and says whether there was room.
-    fn put(gates: &mut Gates<'_>, number: u32, height: u8) -> bool {
+    fn put(gates: &mut Register<'_, Gate>, number: u32, height: u8) -> bool {
         gates.put(Gate { number, height }).is_ok()
     }
 
     #[test]
     fn gates_in_any_order(rt: HostRuntime) {
         let mut rows = [SHUT; 4];
-        let mut gates = Gates::new(&mut rows);
+        let mut gates = Register::new(&mut rows);
         assert!(rt; are(&gates, &[]));
         assert!(rt; put(&mut gates, 7, 1));
         assert!(rt; put(&mut gates, 300, 2));
@@ -58,15 +48,15 @@ mod tests {
         assert!(rt; is_open(&gates, 300, 2));
         assert!(rt; is_open(&gates, 2, 3));
         assert!(rt; is_open(&gates, 8, 4));
-        assert!(rt; gates.find(3).is_none());
-        assert!(rt; gates.find(301).is_none());
-        assert!(rt; gates.find(0).is_none());
+        assert!(rt; gates.find(&3).is_none());
+        assert!(rt; gates.find(&301).is_none());
+        assert!(rt; gates.find(&0).is_none());
     }
 
     #[test]
     fn same_number_is_replaced(rt: HostRuntime) {
         let mut rows = [SHUT; 2];
-        let mut gates = Gates::new(&mut rows);
+        let mut gates = Register::new(&mut rows);
         assert!(rt; put(&mut gates, 7, 1));
         assert!(rt; put(&mut gates, 5, 2));
         assert!(rt; put(&mut gates, 7, 9));
@@ -78,7 +68,7 @@ mod tests {
     #[test]
     fn full_refuses_a_new_number_only(rt: HostRuntime) {
         let mut rows = [SHUT; 2];
-        let mut gates = Gates::new(&mut rows);
+        let mut gates = Register::new(&mut rows);
         assert!(rt; put(&mut gates, 7, 1));
         assert!(rt; put(&mut gates, 5, 2));
         assert!(rt; !put(&mut gates, 6, 3));
@@ -92,74 +82,74 @@ mod tests {
     #[test]
     fn freed_row_is_used_again(rt: HostRuntime) {
         let mut rows = [SHUT; 3];
-        let mut gates = Gates::new(&mut rows);
+        let mut gates = Register::new(&mut rows);
         assert!(rt; put(&mut gates, 1, 1));
         assert!(rt; put(&mut gates, 2, 2));
         assert!(rt; put(&mut gates, 3, 3));
-        assert!(rt;
-            match gates.remove(2) {
-                Some(gate) => gate.number == 2 && gate.height == 2,
-                None => false,
-            }
-        );
+        let removed = Gate {
+            number: 2,
+            height: 2,
+        };
+        assert_eq!(rt; gates.remove(&2), Some(removed));
         assert!(rt; are(&gates, &[1, 3]));
-        assert!(rt; gates.remove(2).is_none());
+        assert!(rt; gates.remove(&2).is_none());
         assert!(rt; are(&gates, &[1, 3]));
         assert!(rt; put(&mut gates, 0, 8));
         assert!(rt; are(&gates, &[0, 1, 3]));
-        assert!(rt; gates.remove(3).is_some());
-        assert!(rt; gates.remove(0).is_some());
-        assert!(rt; gates.remove(1).is_some());
-        assert!(rt; gates.remove(1).is_none());
+        assert!(rt; gates.remove(&3).is_some());
+        assert!(rt; gates.remove(&0).is_some());
+        assert!(rt; gates.remove(&1).is_some());
+        assert!(rt; gates.remove(&1).is_none());
         assert!(rt; are(&gates, &[]));
     }
 
     #[test]
     fn no_rows_at_all(rt: HostRuntime) {
         let mut rows: [Gate; 0] = [];
-        let mut gates = Gates::new(&mut rows);
+        let mut gates = Register::new(&mut rows);
         assert!(rt; !put(&mut gates, 1, 1));
-        assert!(rt; gates.remove(1).is_none());
+        assert!(rt; gates.remove(&1).is_none());
         assert!(rt; are(&gates, &[]));
     }
 
-    // A program of that name. All names in these tests are short enough.
-    fn program(name: &[u8], starts: u32) -> Program {
-        match Text::copy_of(name) {
-            Some(name) => Program { name, starts },
-            None => Program {
-                name: empty(),
-                starts,
-            },
-        }
+    // The name of these bytes. All names in these tests are short enough.
+    fn name(bytes: &[u8]) -> Text<8> {
+        Text::copy_of(bytes).unwrap_or(empty())
     }
 
     fn empty() -> Text<8> {
         Text::copy_of(b"").unwrap()
     }
 
-    // How often the program was started, or 0 where there is none of that name.
-    fn starts(programs: &Programs<'_>, name: &[u8]) -> u32 {
-        match programs.find(&program(name, 0).name) {
-            Some(program) => program.starts,
-            None => 0,
+    // A program of that name.
+    fn program(bytes: &[u8], starts: u32) -> Program {
+        Program {
+            name: name(bytes),
+            starts,
         }
     }
 
+    // How often the program was started, or 0 where there is none of that name.
+    fn starts(programs: &Register<'_, Program>, bytes: &[u8]) -> u32 {
+        programs
+            .find(&name(bytes))
+            .map_or(0, |program| program.starts)
+    }
+
     // Puts a program, and says whether there was room.
-    fn start(programs: &mut Programs<'_>, name: &[u8], starts: u32) -> bool {
-        programs.put(program(name, starts)).is_ok()
+    fn start(programs: &mut Register<'_, Program>, bytes: &[u8], starts: u32) -> bool {
+        programs.put(program(bytes, starts)).is_ok()
     }
 
     // Takes a program out, and says whether it was there.
-    fn stop(programs: &mut Programs<'_>, name: &[u8]) -> bool {
-        programs.remove(&program(name, 0).name).is_some()
+    fn stop(programs: &mut Register<'_, Program>, bytes: &[u8]) -> bool {
+        programs.remove(&name(bytes)).is_some()
     }
 
     #[test]
     fn programs_by_name(rt: HostRuntime) {
         let mut rows = [program(b"", 0); 4];
-        let mut programs = Programs::new(&mut rows);
+        let mut programs = Register::new(&mut rows);
         assert!(rt; start(&mut programs, b"pump", 1));
         assert!(rt; start(&mut programs, b"panel", 2));
         assert!(rt; start(&mut programs, b"pum", 3));
@@ -181,8 +171,7 @@ mod tests {
 
     // Whether the first name comes before the second, and the second not before the first.
     fn rise(a: &[u8], b: &[u8]) -> bool {
-        let a = program(a, 0).name;
-        let b = program(b, 0).name;
+        let (a, b) = (name(a), name(b));
         a.is_before(&b) && !b.is_before(&a)
     }
 
