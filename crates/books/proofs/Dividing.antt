@@ -1,6 +1,7 @@
 -- What a divided table has for a name.
-use Rattle.std.proofs.Common.{◌≡◌, ℕ, Bool, true, false, cond, not, List, [], ◌∷◌, ◌++◌, Some, None, Option, sym, refl, ap, ◌∙◌, subst, ⊎_elim, arith}
+use Rattle.std.proofs.Common.{◌≡◌, ℕ, Bool, true, false, cond, not, List, [], ◌∷◌, ◌++◌, Some, None, Option, sym, refl, ap, ◌∙◌, subst, ⊎_elim}
 use Rattle.std.proofs.lemmas.Slice.Eq.{bytes_eq-Decides}
+use Rattle.std.proofs.lemmas.Option.{none-some}
 use Rattle.std.proofs.lemmas.Bool.{cond-true, cond-false, cases_Bool}
 use Rattle.std.specs.Str.{bytes_eq}
 use Rattle.books.specs.Tables.{Table, text_of, begins, keep, divided}
@@ -35,7 +36,7 @@ text_after : (s t : Table) (name : List ℕ) → text_of s name ≡ None → tex
 text_after [] t name e = refl
 text_after (x ∷ s) t name e =
     ⊎_elim
-    (λ same. let z : ◌≡◌ {A = Option (List ℕ)} (Some x.text) None = sym (cond-true _ _ _ same) ∙ e in let y : ◌≡◌ {A = ℕ} 0 1 = cc in absurd (omega arith))
+    (λ same. absurd (none-some x.text (sym e ∙ cond-true _ _ _ same)))
     (λ other. cond-false _ _ _ other ∙ text_after s t name (sym (cond-false _ _ _ other) ∙ e))
     (cases_Bool (bytes_eq x.name name))
 

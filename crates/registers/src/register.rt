@@ -13,6 +13,7 @@ pub struct Full;
 /// Records in rising order of their keys, each key once. They are the first `used` rows of a lent slice.
 #[derive(Drop)]
 pub struct Register<'a, R: Record> {
+    // A lent slice and how much of it is used, in place of a map or a `Vec`: the library takes no memory of its own.
     pub(crate) rows: &'a mut [R],
     pub(crate) used: usize,
     pub ghost fits: { used ≤ length rows.now },
