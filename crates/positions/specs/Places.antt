@@ -1,5 +1,5 @@
 -- A set of places as one number.
-use Rattle.std.specs.Prelude.{◌≡◌, ℕ, zero, suc, ◌/◌, ◌%◌, ◌<◌, ◌≤◌, ◌≢◌, ◌↔◌}
+use Rattle.std.specs.Prelude.{◌≡◌, ℕ, zero, suc, ◌/◌, ◌%◌, ◌<◌, ◌≤◌, ◌≢◌, ◌↔◌, Option, MatchOption}
 
 -- a place is in the set where the binary digit there is set
 unfoldable pub Has : ℕ → ℕ → Type 0
@@ -17,3 +17,8 @@ pub record Split (m f rest : ℕ) : Type 0 where
   pub below : f < 64
   pub others : (i : ℕ) → Has rest i ↔ (Has m i × (i ≢ f))
   pub less : rest < m
+
+-- One step of a walk over a set: it gives the least place and leaves the others. Where there is no place it gives none,
+-- and leaves the set as it was.
+abbrev pub Step : ℕ → Option ℕ → ℕ → Type 0
+Step m given rest = MatchOption given (((i : ℕ) → Has m i → ⊥) × (rest ≡ m)) (λ f. Split m f rest)

@@ -4,11 +4,15 @@
 ghost use Rattle.std.specs.Prelude.{◌≡◌, ℕ, ◌+◌, ◌<◌, ◌≤◌, true, ◌≢◌, ◌⊎◌, ◌↔◌, MatchOption};
 ghost use Rattle.positions.specs.Places.{Has, Split};
 
+mod walk;
+
+pub use walk::Places;
+
 /// How many places there are.
 pub const PLACES: usize = 64;
 
 /// A set of places: those whose binary digit is set.
-#[derive(Clone, Copy)]
+#[derive(Clone, Copy, PartialEq, Eq, Debug)]
 pub struct Positions {
     digits: u64,
 }
