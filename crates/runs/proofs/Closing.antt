@@ -5,7 +5,7 @@ use mathlib.Core.HLevel.{⊥_prop}
 use Rattle.std.proofs.lemmas.Bool.{cases_eq}
 use Rattle.positions.proofs.Digits.{has_or_not}
 use Rattle.runs.specs.declared.relation.Runs.{Runs}
-use Rattle.runs.specs.Relations.{Reach, done, further}
+use Rattle.runs.specs.Relations.{Reach, Closure, done, further}
 use Rattle.runs.specs.Runs.{Closed}
 use Rattle.runs.proofs.Reaching.{reach_one, reach_trans, reach_onward}
 
@@ -14,14 +14,10 @@ pub closed_runs : (r : Runs) → ∥ Closed r ∥₁ → Closed r
 closed_runs r mere i k j a b = (a.0, ⊎_elim (λ h. h) (λ n. absurd (∥∥₁_elim mere ⊥_prop (λ closed. n (closed i k j a b).1))) (has_or_not _ j))
 
 module _ (Was : ℕ → ℕ → Type 0) (count : ℕ) where
-  -- any number of times, from the first places
-  abbrev pub Closure : ℕ → ℕ → Type 0
-  Closure i j = (i < count) × Reach Was i j
-
   -- a relation whose rows from one on are closed, and the others are as they were
   pub record From (i : ℕ) (Is : ℕ → ℕ → Type 0) : Type 0 where
     pub before : (k j : ℕ) → k < i → Is k j ↔ Was k j
-    pub after : (k j : ℕ) → i ≤ k → Is k j ↔ Closure k j
+    pub after : (k j : ℕ) → i ≤ k → Is k j ↔ Closure count Was k j
 
   module _ (start : (i j : ℕ) → Was i j → i < count) (on : (i j : ℕ) → Was i j → i ≤ j) (i : ℕ) (Is : ℕ → ℕ → Type 0) (from : From (i + 1) Is) where
     -- an end other than the start is past it
@@ -37,7 +33,7 @@ module _ (Was : ℕ → ℕ → Type 0) (count : ℕ) where
         (from.after m j far).1 (lt, reach_trans r ((from.after k j (omega arith)).0 d).1)
 
     -- a place reaches its ends, itself, and the ends of its ends
-    pub closed_row : (Row : ℕ → Type 0) → i < count → ((j : ℕ) → Row j ↔ ((Was i j ⊎ (j ≡ i)) ⊎ ((m : ℕ) × (Was i m × (m ≢ i)) × Is m j))) → (j : ℕ) → Row j ↔ Closure i j
+    pub closed_row : (Row : ℕ → Type 0) → i < count → ((j : ℕ) → Row j ↔ ((Was i j ⊎ (j ≡ i)) ⊎ ((m : ℕ) × (Was i m × (m ≢ i)) × Is m j))) → (j : ℕ) → Row j ↔ Closure count Was i j
     closed_row Row lt is j = (
       λ h. (lt, ⊎_elim (⊎_elim (λ a. reach_one a) (λ e. done e)) (λ s. further s.0 s.1.0 ((from.after s.0 j (past s.0 s.1.0 s.1.1)).0 s.2).1) ((is j).0 h)),
       λ w. reached i j refl w.1,
@@ -52,7 +48,7 @@ module _ (Was : ℕ → ℕ → Type 0) (count : ℕ) where
         reached k j at (further m a r) = ⊎_elim (λ (e : m ≡ i). reached m j e r) (λ (ne : m ≢ i). onward m j (subst (λ n. Was n m) at a) ne r) (cases_eq m i)
 
     -- one more row is closed
-    pub from_more : (Next : ℕ → ℕ → Type 0) (Row : ℕ → Type 0) → ((k j : ℕ) → Next k j ↔ (((k ≡ i) × Row j) ⊎ ((k ≢ i) × Is k j))) → ((j : ℕ) → Row j ↔ Closure i j) → From i Next
+    pub from_more : (Next : ℕ → ℕ → Type 0) (Row : ℕ → Type 0) → ((k j : ℕ) → Next k j ↔ (((k ≡ i) × Row j) ⊎ ((k ≢ i) × Is k j))) → ((j : ℕ) → Row j ↔ Closure count Was i j) → From i Next
     from_more Next Row set row = record {
       before = λ k j lt. (
         λ h. (from.before k j (omega arith)).0 (⊎_elim (λ w. absurd (omega (arith, w.0))) (λ w. w.1) ((set k j).0 h)),
@@ -60,8 +56,8 @@ module _ (Was : ℕ → ℕ → Type 0) (count : ℕ) where
       );
       after = λ k j le. ⊎_elim
           (λ (e : k ≡ i). (
-            λ h. subst (λ n. Closure n j) (sym e) (⊎_elim (λ w. (row j).0 w.1) (λ w. absurd (w.0 e)) ((set k j).0 h)),
-            λ h. (set k j).1 (inl (e, (row j).1 (subst (λ n. Closure n j) e h))),
+            λ h. subst (λ n. Closure count Was n j) (sym e) (⊎_elim (λ w. (row j).0 w.1) (λ w. absurd (w.0 e)) ((set k j).0 h)),
+            λ h. (set k j).1 (inl (e, (row j).1 (subst (λ n. Closure count Was n j) e h))),
           ))
           (λ (ne : k ≢ i).
           let far : i + 1 ≤ k = grind arith in (

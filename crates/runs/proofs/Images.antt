@@ -3,15 +3,12 @@ use Rattle.std.proofs.Common.{◌≡◌, ℕ, ◌≢◌, ◌⊎◌, ◌↔◌, s
 use Rattle.std.proofs.lemmas.Bool.{cases_eq}
 use Rattle.positions.specs.Places.{Has}
 use Rattle.positions.proofs.Digits.{has_or_not}
+use Rattle.runs.specs.Relations.{Image}
 
 module _ (Run : ℕ → ℕ → Type 0) where
-  -- a run from one of the starts ends at a place
-  abbrev pub Image : ℕ → ℕ → Type 0
-  Image starts j = (m : ℕ) × Has starts m × Run m j
-
   -- the image is the ends that are found, and the image of the starts that are left
   abbrev pub Found : ℕ → ℕ → ℕ → Type 0
-  Found starts ends left = (j : ℕ) → Image starts j ↔ (Has ends j ⊎ Image left j)
+  Found starts ends left = (j : ℕ) → Image Run starts j ↔ (Has ends j ⊎ Image Run left j)
 
   module _ (starts ends left f others more : ℕ) (found : Found starts ends left) (here : Has left f) (but : (i : ℕ) → Has others i ↔ (Has left i × (i ≢ f))) (adds : (j : ℕ) → Has more j ↔ (Has ends j ⊎ Run f j)) where
     -- the ends of one start are added

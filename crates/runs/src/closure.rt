@@ -1,7 +1,7 @@
 //! Any number of runs, each from where the one before ended.
-ghost use Rattle.std.specs.Prelude.{◌≡◌, ℕ, ◌<◌, ◌↔◌};
-ghost use Rattle.runs.specs.Relations.{Composed, Reach};
-ghost use Rattle.runs.specs.Runs.{Ends, Closed};
+ghost use Rattle.std.specs.Prelude.{◌≡◌};
+ghost use Rattle.runs.specs.Relations.{Closure};
+ghost use Rattle.runs.specs.Runs.{Ends, Closed, Becomes};
 
 use super::relation::Runs;
 
@@ -16,8 +16,7 @@ impl Runs {
     /// Any number of these runs, each from where the one before ended.
     /// A row needs those after it, so the last one comes first.
     pub fn closed(self) -> ClosedRuns
-        ensures kept { result.runs.count ≡ self.count }
-        ensures ends { (i j : ℕ) → Ends result.runs i j ↔ ((i < self.count) × Reach (Ends self) i j) }
+        ensures { Becomes self result.runs (Closure self.count (Ends self)) }
     {
         let mut runs = self;
         for i in (0..self.count).rev() {
@@ -26,16 +25,6 @@ impl Runs {
             runs.set_row(i, row.insert(i).union(further));
         }
         ClosedRuns { runs }
-    }
-
-    /// Each run goes on by a run of a closed relation.
-    pub fn follow_closed(&mut self, each: &ClosedRuns)
-        ensures kept { self.new.count ≡ self.old.count }
-        ensures ends { (i j : ℕ) → Ends self.new i j ↔ Composed (Ends self.old) (Ends each.now.runs) i j }
-    {
-        for i in 0..self.count {
-            self.set_row(i, each.runs.closed_image(self.row(i)));
-        }
     }
 }
 

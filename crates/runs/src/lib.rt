@@ -8,4 +8,4 @@ mod row;
 mod step;
 
 pub use closure::ClosedRuns;
-pub use relation::Runs;
+pub use relation::{Relation, Runs};
