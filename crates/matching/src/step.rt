@@ -24,7 +24,7 @@ impl Step {
         match self {
             Step::Part(places) => runs.advance(*places),
             Step::Runs(each) => runs.follow(each),
-            Step::Closed(each) => runs.follow_closed(each),
+            Step::Closed(each) => runs.follow(each),
         }
     }
 

@@ -16,6 +16,6 @@ pub(crate) fn dotted_words(count: usize, words: Positions, dots: Positions) -> R
     dot_word.advance(words);
     let mut runs = Runs::start(count);
     runs.advance(words);
-    runs.follow_closed(&dot_word.closed());
+    runs.follow(&dot_word.closed());
     runs
 }

@@ -16,6 +16,6 @@ returns c =
     let counted : c.advance-2.new.self.count ≡ n = c.advance-2.ensures.kept ∙ c.advance.ensures.kept ∙ c.start-dot_word.ensures.counted in
     let from : (i j : ℕ) → ((i < c.advance-2.new.self.count) × Reach (Ends c.advance-2.new.self) i j) ↔ DotWords n words dots i j = λ i j. (λ r. (subst (λ k. i < k) counted r.0, (reach_same dot_word i j).0 r.1), λ r. (subst (λ k. i < k) (sym counted) r.0, (reach_same dot_word i j).1 r.1)) in
     record {
-      counted = c.follow_closed.ensures.kept ∙ c.advance-3.ensures.kept ∙ c.start-runs.ensures.counted;
-      ends = trans_same c.follow_closed.ensures.ends (composed_same one_word (trans_same c.closed.ensures.ends from));
+      counted = c.follow.ensures.kept ∙ c.advance-3.ensures.kept ∙ c.start-runs.ensures.counted;
+      ends = trans_same c.follow.ensures.ends (composed_same one_word (trans_same c.closed.ensures.ends from));
     }
