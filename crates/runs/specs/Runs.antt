@@ -1,7 +1,7 @@
 -- Where runs end.
 use Rattle.std.specs.Prelude.{◌≡◌, ℕ, ◌<◌, ◌↔◌}
 use Rattle.runs.specs.declared.relation.Runs.{Runs}
-use Rattle.runs.specs.Rows.{At}
+use Rattle.positions.specs.Rows.{At}
 
 -- a run from one of the first places can end at a place
 abbrev pub Ends : Runs → ℕ → ℕ → Type 0

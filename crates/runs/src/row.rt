@@ -2,7 +2,7 @@
 ghost use Rattle.std.specs.Prelude.{◌≡◌, ℕ, min, ◌<◌, ◌≤◌, true, ◌↔◌, length};
 ghost use Rattle.positions.specs.Places.{Has};
 ghost use Rattle.runs.specs.Relations.{Replaced};
-ghost use Rattle.runs.specs.Rows.{row_at};
+ghost use Rattle.positions.specs.Rows.{row_at};
 ghost use Rattle.runs.specs.Runs.{Ends, Becomes};
 
 use super::relation::Runs;

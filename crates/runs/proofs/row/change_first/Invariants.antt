@@ -1,5 +1,5 @@
 use Rattle.std.proofs.Common.{◌≡◌, ℕ, ◌<◌, ◌≤◌, length}
-use Rattle.runs.specs.Rows.{row_at}
+use Rattle.positions.specs.Rows.{row_at}
 use Rattle.runs.proofs.row.change_first.Given as goal
 
 abbrev pub invariant-loop-i : goal.invariant-loop-i
