@@ -1,3 +1,2 @@
 pub mod Chains
 mod Between
-mod Rows

@@ -1,16 +1,12 @@
 -- Which group names which, and what leads where.
-use Rattle.std.specs.Prelude.{◌≡◌, ℕ, ◌+◌, ◌<◌, ◌⊎◌, ◌↔◌, slice_index_or}
+use Rattle.std.specs.Prelude.{◌≡◌, ℕ, ◌+◌, ◌<◌, ◌⊎◌, ◌↔◌}
 use Rattle.positions.specs.Places.{Has}
-use Rattle.positions.specs.declared.Positions.{Positions}
+use Rattle.positions.specs.Rows.{At}
 use Rattle.links.specs.declared.links.Links.{Links}
-
--- a row that holds no number
-abbrev pub empty_row : Positions
-empty_row = record { digits = 0 }
 
 -- group i names group j
 abbrev pub Linked : Links → ℕ → ℕ → Type 0
-Linked l i j = (i < l.len) × Has (slice_index_or l.rows i empty_row).digits j
+Linked l i j = (i < l.len) × At l.rows i j
 
 -- one or more steps lead from i to j
 pub data Chain (Step : ℕ → ℕ → Type 0) : ℕ → ℕ → Type 0 where

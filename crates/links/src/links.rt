@@ -7,6 +7,7 @@ use positions::Positions;
 pub const MAX_GROUPS: usize = 32;
 
 /// Which group names which. Row i holds the numbers of the groups that group i names.
+// An array and a count: the library has no heap, and a table is copied, which no `ArrayVec` is.
 #[derive(Clone, Copy)]
 pub struct Links {
     pub(crate) rows: [Positions; MAX_GROUPS],

@@ -7,7 +7,7 @@ use super::links::{Links, MAX_GROUPS};
 use positions::Positions;
 
 /// The table has no row left for a further group.
-#[derive(Clone, Copy)]
+#[derive(Clone, Copy, PartialEq, Eq, Debug)]
 pub struct Full;
 
 impl Links {
@@ -27,16 +27,16 @@ impl Links {
     pub fn has(&self, from: usize, to: usize) -> bool
         ensures { (result ≡ true) ↔ Linked self.now from to }
     {
-        from < self.len && self.rows[from].contains(to)
+        self.row(from).contains(to)
     }
 
     /// The groups that a group names; one that is not in the table names none.
     pub fn row(&self, from: usize) -> Positions
         ensures { (to : ℕ) → Has result.digits to ↔ Linked self.now from to }
     {
-        if from >= self.len {
-            return Positions::empty();
-        }
-        self.rows[from]
+        self.rows[..self.len]
+            .get(from)
+            .copied()
+            .unwrap_or(Positions::empty())
     }
 }
