@@ -4,9 +4,6 @@ use Rattle.positions.proofs.Order.{some_positive}
 use Rattle.positions.proofs.Least.{split}
 use Rattle.positions.proofs.Positions.split_first.Goals as goal
 
-pub returns-then-is_empty : goal.returns-then-is_empty
-returns-then-is_empty c = c.is_empty.ensures.0 c.if-is_empty.true
-
 pub overflow_sub-others : goal.overflow_sub-others
 overflow_sub-others c = some_positive c.args.self.digits (λ none. clash (c.if-is_empty.ensures.1 none))
 
