@@ -1,4 +1,4 @@
-use Rattle.std.proofs.Common.{ℕ, ◌+◌, ◌-◌, ◌<◌, ◌↔◌, ◌∙◌, subst, inl, inr, ⊎_elim, arith}
+use Rattle.std.proofs.Common.{rules, ℕ, ◌+◌, ◌-◌, ◌<◌, ◌↔◌, ◌∙◌, subst, inl, inr, ⊎_elim, arith}
 use Rattle.positions.specs.Places.{Has}
 use Rattle.runs.specs.Runs.{Ends, Closed}
 use Rattle.runs.proofs.Reaching.{reach_trans}
@@ -22,7 +22,7 @@ loop-i-preserved c =
     let lt : i < n = omega arith in
     let is = Ends c.loop-i.runs in
     let from : From was n (i + 1) is = subst (λ k. From was n k is) (omega arith) c.loop-i.invariant.1 in
-    let row : (j : ℕ) → Has c.row-row.result.digits j ↔ was i j = λ j. (λ h. (from.before i j (omega arith)).0 ((c.row-row.ensures j).0 h), λ h. (c.row-row.ensures j).1 ((from.before i j (omega arith)).1 h)) in
+    let row : (j : ℕ) → Has c.row-row.result.digits j ↔ was i j = λ j. let before = from.before i j (omega arith) in let here = c.row-row.ensures j in search rules in
     let ends = Has c.union.result.digits in
     let both = c.union.ensures in
     let own = c.insert.ensures in
