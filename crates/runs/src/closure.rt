@@ -19,6 +19,7 @@ impl Runs {
         ensures { Becomes self result.runs (Closure self.count (Ends self)) }
     {
         let mut runs = self;
+        // By number: a row is worked out from rows after it, which it names by their numbers.
         for i in (0..self.count).rev() {
             let row = runs.row(i);
             let further = runs.closed_image(row.remove(i));
