@@ -106,22 +106,22 @@ references lawful = let (ps, placed) = lawful_placed lawful in (references_of ps
 
 module _ {M : Meaning} {list : List ℕ} (lawful : LawfulList list) where
   -- the list itself is read first
-  pub list_halts : {gs : List Name} {f : Fault} → gs ≡ [] → ((rs : List Reference) → Refers list rs → HaltsIn M gs rs 0 f) → OpenFault M list f
+  pub list_halts : {gs : List Name} {f : Fault} → gs ≡ [] → ((rs : List Reference) → Refers list rs → HaltsIn M gs rs f) → OpenFault M list f
   list_halts {f = f} none h =
       let (rs, refers) = references lawful in
       let x = h rs refers in
-      subst (OpenFault M list) (sym x.told) (halts start (the_list refl refl) lawful refers (subst (λ gs. Halts M gs rs x.kind x.place) none x.halts))
+      rw (← x.first) at (halts start (the_list refl refl) lawful refers (subst (λ gs. Halts M gs rs f.kind f.place) none x.halts))
 
-  pub list_gathered : {gs gs' : List Name} {named : ℕ} {links : Links} (texts : List (List ℕ)) → gs ≡ [] → ((rs : List Reference) → Refers list rs → AllMet M gs rs gs' named) → links.len ≡ 0 → Gathering M list 0 gs' texts links
+  pub list_gathered : {gs gs' : List Name} {named : ℕ} {links : Links} (texts : List (List ℕ)) → gs ≡ [] → ((rs : List Reference) → Refers list rs → AllMet M gs rs gs' named) → links.len ≡ 0 → Gathering M list links.len gs' texts links
   list_gathered {gs' = gs'} {links = links} texts none h rows =
       let (rs, refers) = references lawful in
       record {
-        read = turn refl start (the_list refl refl) lawful refers (subst (λ gs. MeetsAll M gs rs gs') none (h rs refers).met);
-        within = omega arith;
-        texts_held = λ i lt. absurd (omega arith);
-        rows = rows;
+        read = turn (ap (λ n. n + 1) rows) start (the_list refl refl) lawful refers (subst (λ gs. MeetsAll M gs rs gs') none (h rs refers).met);
+        within = omega (arith, rows);
+        texts_held = λ i lt. absurd (omega (arith, lt, rows));
+        rows = refl;
         only = λ i j l. absurd (omega (arith, l.0, rows));
-        every = λ i g lt n. absurd (omega arith);
+        every = λ i g lt n. absurd (omega (arith, lt, rows));
       }
 
 module _ {M : Meaning} {list : List ℕ} {k : ℕ} {gs : List Name} {texts : List (List ℕ)} {links : Links} (g : Gathering M list k gs texts links) (here : k < length gs) where
@@ -132,8 +132,7 @@ module _ {M : Meaning} {list : List ℕ} {k : ℕ} {gs : List Name} {texts : Lis
   pub text_fault : {text : List ℕ} {f : Fault} → M (get_or gs k []) ≡ Some text → ListFault text f → OpenFault M list (in_text (k + 1) f)
   text_fault has fault = unlawful g.read (the_group k refl here has) fault
 
-  pub group_halts : {text : List ℕ} {f : Fault} → M (get_or gs k []) ≡ Some text → LawfulList text → ((rs : List Reference) → Refers text rs → HaltsIn M gs rs (k + 1) f) → OpenFault M list f
+  pub group_halts : {text : List ℕ} {f : Fault} → M (get_or gs k []) ≡ Some text → LawfulList text → ((rs : List Reference) → Refers text rs → HaltsIn M gs rs f) → OpenFault M list (in_text (k + 1) f)
   group_halts has lawful h =
       let (rs, refers) = references lawful in
-      let x = h rs refers in
-      subst (OpenFault M list) (sym x.told) (halts g.read (the_group k refl here has) lawful refers x.halts)
+      halts g.read (the_group k refl here has) lawful refers (h rs refers).halts

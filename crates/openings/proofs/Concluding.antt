@@ -56,13 +56,13 @@ opened_as {M} {list} o same opens = record { same = same; opens = opens; complet
 pub opened_alike : {M M' : Meaning} {list : List ℕ} (o : Opened) → list_of o ≡ list → Opens M list (groups_of o) → Alike M M' list → OpenedAs M' list o
 opened_alike {M} {M'} {list} o same opens alike = opened_as o same ((same_answer list M M' alike).groups (groups_of o) opens)
 
-module _ {M : Meaning} {list : List ℕ} (gathered : Gathered) (all : AllGathered M list gathered) where
+module _ {M : Meaning} {list : List ℕ} (gathered : Gathered) (room : length gathered.texts ≡ 32) (all : AllGathered M list gathered) where
   -- the groups that were gathered, as a table
   abbrev pub table_in : Table
   table_in = pairs (known gathered.known) (texts_in gathered.texts)
 
   pub names_in : names_of table_in ≡ known gathered.known
-  names_in = pairs_names _ _ (omega (arith, known_count gathered.known, gathered.known.few, length-map gathered.texts text_in, gathered.room))
+  names_in = pairs_names _ _ (omega (arith, known_count gathered.known, gathered.known.few, length-map gathered.texts text_in, room))
 
   -- without a circle the list opens to them
   pub table_opens : ((i place : ℕ) → OnCircle M (known gathered.known) i place → ⊥) → Opens M list table_in

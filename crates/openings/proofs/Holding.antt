@@ -1,22 +1,35 @@
 -- The names that an opening holds, as a list.
-use Rattle.std.proofs.Common.{◌≡◌, ℕ, ◌+◌, ◌-◌, ◌<◌, true, false, List, [], ◌∷◌, ◌++◌, length, get_or, take, set, is_some, Some, None, Option, sym, refl, ap, ◌∙◌, add-one, arith, length-take, get_or-take, take-suc-set}
+use Rattle.std.proofs.Common.{◌≡◌, ℕ, ◌+◌, ◌<◌, ◌≤◌, Bool, true, false, List, [], ◌∷◌, ◌++◌, length, get_or, take, set, is_some, Some, None, Option, sym, refl, ap, ◌∙◌, add-one, arith, length-take, get_or-take, take-suc-set, MatchOption}
 use mathlib.Core.List.{map-append}
 use borrow.Author.Tests.{clash}
 use lib.ListN.{length-map}
 use Rattle.std.proofs.lemmas.List.{get_or-map, get_or_at, length-append}
+use Rattle.std.proofs.lemmas.Grind.{common_steps}
+use Rattle.std.proofs.lemmas.List.Quantifiers.{position-Some}
+use Rattle.std.proofs.lemmas.List.Sums.{fails_before_first}
+use Rattle.std.proofs.lemmas.Slice.Eq.{bytes_eq-Decides}
+use Rattle.std.specs.List.{position, position_or_len}
 use Rattle.std.specs.Option.{option_map}
+use Rattle.std.specs.Str.{bytes_eq}
 use Rattle.lists.specs.declared.group_name.GroupName.{GroupName}
 use Rattle.openings.specs.declared.known.KnownGroups.{KnownGroups}
-use Rattle.openings.specs.Opening.{Name, Numbered}
-use Rattle.openings.specs.Holding.{name_of, names_in, known}
+use Rattle.openings.specs.Opening.{Name, Numbered, Known}
+use Rattle.openings.specs.Naming.{name_of, names_in}
+use Rattle.openings.specs.Holding.{known}
 
--- the name of an element
-pub name_at : (ns : List GroupName) (k : ℕ) (x : GroupName) → k < length ns → x ≡ get_or ns k x → get_or (names_in ns) k [] ≡ name_of x
-name_at ns k x lt e = get_or-map name_of ns k x [] lt ∙ ap name_of (sym e)
-
--- the names of a part from the front
-pub front : (ns : List GroupName) (n : ℕ) → names_in (take (n - 0) ns) ≡ names_in (take n ns)
-front ns n = let whole : n - 0 ≡ n = omega arith in ap (λ k. names_in (take k ns)) whole
+-- the first place of a name is its number
+pub place_numbered : (ns : List GroupName) (g : Name) (r : Option ℕ) → r ≡ position (λ n. bytes_eq (name_of n) g) ns → MatchOption r (Known (names_in ns) g → ⊥) (λ k. Numbered (names_in ns) g k)
+place_numbered [] g None e = λ known. absurd (omega (arith, known.1.below))
+place_numbered [] g (Some k) e = let z : ◌≡◌ {A = ℕ} 0 1 = cc in absurd (omega arith)
+place_numbered (n ∷ ns) g None e =
+    let Is : GroupName → Bool = λ n. bytes_eq (name_of n) g in
+    let all : length (n ∷ ns) ≤ position_or_len Is (n ∷ ns) = grind (arith, common_steps) in
+    λ known.
+    let lt : known.0 < length (n ∷ ns) = omega (arith, known.1.below, length-map (n ∷ ns) name_of) in
+    clash (sym (fails_before_first Is (n ∷ ns) known.0 n (omega arith)) ∙ (bytes_eq-Decides _ g).1 (sym (get_or-map name_of (n ∷ ns) known.0 n [] lt) ∙ known.1.is))
+place_numbered (n ∷ ns) g (Some k) e =
+    let at = position-Some (λ n. bytes_eq (name_of n) g) (n ∷ ns) k n (sym e) in
+    record { below = omega (arith, at.0, length-map (n ∷ ns) name_of); is = get_or-map name_of (n ∷ ns) k n [] at.0 ∙ (bytes_eq-Decides _ g).0 at.1 }
 
 pub known_count : (k : KnownGroups) → length (known k) ≡ k.count
 known_count k = length-map (take k.count k.names) name_of ∙ length-take k.count k.names ∙ omega (arith, k.few, k.room)

@@ -8,6 +8,7 @@ pub mod Stopping
 pub mod TableTexts
 pub mod Answering
 pub mod Holding
+pub mod Outcomes
 pub mod Walking
 pub mod Copying
 pub mod Collecting

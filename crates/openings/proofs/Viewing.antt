@@ -1,5 +1,5 @@
 -- What an opened list holds, as its table.
-use Rattle.std.proofs.Common.{◌≡◌, ◌-◌, ◌≤◌, length, take, sym, ap, ◌∙◌, arith}
+use Rattle.std.proofs.Common.{◌≡◌, ◌≤◌, length, take, sym, ap, ◌∙◌, arith}
 use lib.ListN.{length-map}
 use Rattle.std.proofs.lemmas.List.{take-map}
 use Rattle.openings.specs.declared.opened.Opened.{Opened}
@@ -17,7 +17,5 @@ enough o = omega (arith, known_count o.names, o.names.few, length-map o.texts te
 pub view_names : (o : Opened) → known o.names ≡ names_of (groups_of o)
 view_names o = sym (pairs_names (known o.names) (texts_in o.texts) (enough o))
 
-pub view_texts : (o : Opened) → texts_in (take (o.names.count - 0) o.texts) ≡ texts_of (groups_of o)
-view_texts o =
-    let size : o.names.count - 0 ≡ length (known o.names) = omega (arith, known_count o.names) in
-    ap (λ n. texts_in (take n o.texts)) size ∙ sym (take-map text_in (length (known o.names)) o.texts) ∙ sym (pairs_held (known o.names) (texts_in o.texts) (enough o))
+pub view_texts : (o : Opened) → texts_in (take o.names.count o.texts) ≡ texts_of (groups_of o)
+view_texts o = ap (λ n. texts_in (take n o.texts)) (sym (known_count o.names)) ∙ sym (take-map text_in (length (known o.names)) o.texts) ∙ sym (pairs_held (known o.names) (texts_in o.texts) (enough o))

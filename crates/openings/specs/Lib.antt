@@ -3,9 +3,9 @@ pub mod Opening
 pub mod Circles
 pub mod Opened
 pub mod Laws
+pub mod Naming
 pub mod Holding
 pub mod Meeting
-pub mod Reading
 pub mod Gathering
 pub mod Backing
 pub mod Tabled

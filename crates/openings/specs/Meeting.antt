@@ -2,10 +2,8 @@
 use Rattle.std.specs.Prelude.{◌≡◌, ℕ, ◌⊎◌, List, [], ◌∷◌}
 use Rattle.positions.specs.Places.{Has}
 use Rattle.faults.specs.declared.fault.Fault.{Fault}
-use Rattle.faults.specs.declared.kind.Kind.{Kind}
 use Rattle.openings.specs.References.{Reference}
 use Rattle.openings.specs.Opening.{Name, Meaning, Numbered, MeetsAll, Halts}
-use Rattle.openings.specs.Opened.{fault_in}
 
 -- one of the references names the group
 abbrev pub Named : List Reference → Name → Type 0
@@ -18,9 +16,7 @@ pub record AllMet (M : Meaning) (gs : List Name) (rs : List Reference) (gs' : Li
   pub only : (k : ℕ) → Has named k → (g : Name) × (Named rs g × Numbered gs' g k)
   pub every : (g : Name) → Named rs g → (k : ℕ) × (Numbered gs' g k × Has named k)
 
--- the references of text i cannot all be met: the fault
-pub record HaltsIn (M : Meaning) (gs : List Name) (rs : List Reference) (i : ℕ) (f : Fault) : Type 0 where
-  pub kind : Kind
-  pub place : ℕ
-  pub told : f ≡ fault_in i kind place
-  pub halts : Halts M gs rs kind place
+-- the references of a text cannot all be met: the fault, as of a call's first text
+pub record HaltsIn (M : Meaning) (gs : List Name) (rs : List Reference) (f : Fault) : Type 0 where
+  pub first : f.text ≡ 0
+  pub halts : Halts M gs rs f.kind f.place

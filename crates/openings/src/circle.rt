@@ -1,7 +1,7 @@
 //! Looking for references that lie on a circle.
-ghost use Rattle.std.specs.Prelude.{◌≡◌, ℕ, ◌<◌, List, [], Decides, MatchOption, slice_index_or};
+ghost use Rattle.std.specs.Prelude.{◌≡◌, ℕ, ◌<◌, List, [], Decides, MatchOption, MatchResult, slice_index_or};
 ghost use Rattle.openings.specs.References.{Reference, Refers};
-ghost use Rattle.openings.specs.Opening.{Name, Meaning, Distinct};
+ghost use Rattle.openings.specs.Opening.{Name, Meaning};
 ghost use Rattle.openings.specs.Circles.{OnCircle};
 ghost use Rattle.openings.specs.Opened.{OpenFault};
 ghost use Rattle.openings.specs.Holding.{known};
@@ -18,7 +18,6 @@ use lists::token::Token;
 impl Gathered {
     // Whether the group of that name is the one at home, or leads to it.
     fn leads_back(&self, name: &[u8], home: usize, leads: &Links) -> bool
-        requires { Distinct (known self.now.known) }
         ensures { Decides result (Back (known self.now.known) leads.now home name.now) }
     {
         match self.known.number_of(name) {
@@ -29,8 +28,7 @@ impl Gathered {
 
     // The place of the first reference in a group's text that leads back to the group.
     fn first_back(&self, home: usize, leads: &Links) -> Option<usize>
-        requires inside { home < 32 }
-        requires distinct { Distinct (known self.now.known) }
+        requires { home < 32 }
         ensures { (rs : List Reference) → Refers (slice_index_or (texts_in self.now.texts) home []) rs → MatchOption result ((g : Name) → Named rs g → Back (known self.now.known) leads.now home g → ⊥) (λ place. FirstBack (known self.now.known) leads.now home rs place) }
     {
         for lexeme in self.texts[home].tokens() {
@@ -43,22 +41,17 @@ impl Gathered {
         None
     }
 
-    /// The first reference that lies on a circle, as a fault.
-    pub(crate) fn first_circle(&self, leads: &Links) -> Option<Fault>
-        requires { Distinct (known self.now.known) }
-        ensures { (M : Meaning) (list : List ℕ) → AllGathered M list self.now → Closes self.now.links leads.now → MatchOption result ((i place : ℕ) → OnCircle M (known self.now.known) i place → ⊥) (λ f. OpenFault M list f) }
+    /// Checks that no reference lies on a circle; tells the first that does, as a fault.
+    pub(crate) fn check_circles(&self, leads: &Links) -> Result<(), Fault>
+        ensures { (M : Meaning) (list : List ℕ) → AllGathered M list self.now → Closes self.now.links leads.now → MatchResult result (λ _. (i place : ℕ) → OnCircle M (known self.now.known) i place → ⊥) (λ f. OpenFault M list f) }
     {
         for k in 0..self.known.count {
             if leads.has(k, k) {
                 if let Some(place) = self.first_back(k, leads) {
-                    return Some(Fault {
-                        kind: Kind::GroupLeadsToItself,
-                        text: k + 1,
-                        place,
-                    });
+                    return Err(Fault::at(Kind::GroupLeadsToItself, place).in_text(k + 1));
                 }
             }
         }
-        None
+        Ok(())
     }
 }

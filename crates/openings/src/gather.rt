@@ -19,18 +19,17 @@ pub(crate) fn gather<B: Book>(list: &AccessList, book: &B) -> Result<Gathered, F
     ensures { LawfulList (shown list.now.text) → MatchResult result (λ g. AllGathered (text_of (B.Book.table book.now)) (shown list.now.text) g) (λ f. OpenFault (text_of (B.Book.table book.now)) (shown list.now.text) f) }
 {
     let mut known = KnownGroups::new();
-    known.meet_all(list, 0, book)?;
+    known.meet_all(list, book)?;
     let mut texts = [*list; MAX_GROUPS];
     let mut links = Links::new();
-    let mut k = 0;
-    while k < known.count {
-        let text = read_group(&known.names[k], k + 1, book)?;
-        let named = known.meet_all(&text, k + 1, book)?;
+    while let Some(&name) = known.name_at(links.len()) {
+        let k = links.len();
+        let text = read_group(&name, book).map_err(|fault| fault.in_text(k + 1))?;
+        let named = known
+            .meet_all(&text, book)
+            .map_err(|fault| fault.in_text(k + 1))?;
         texts[k] = text;
-        let Ok(()) = links.push(named) else {
-            unreachable()
-        };
-        k += 1;
+        links.push(named).unwrap();
     }
     Ok(Gathered {
         known,

@@ -1,6 +1,4 @@
 //! The groups of a list, before circles are looked for.
-ghost use Rattle.std.specs.Prelude.{◌≡◌, length};
-
 use super::known::KnownGroups;
 use links::{Links, MAX_GROUPS};
 use lists::list::AccessList;
@@ -11,5 +9,4 @@ pub(crate) struct Gathered {
     pub(crate) known: KnownGroups,
     pub(crate) texts: [AccessList; MAX_GROUPS],
     pub(crate) links: Links,
-    ghost room: { length texts ≡ 32 },
 }

@@ -1,11 +1,14 @@
 //! Meeting the references of a text, from left to right.
-ghost use Rattle.std.specs.Prelude.{◌≡◌, ℕ, ◌<◌, List, [], ◌∷◌, length, MatchOption, MatchResult};
+ghost use Rattle.std.specs.Prelude.{◌≡◌, ℕ, ◌<◌, ◌≤◌, List, [], ◌∷◌, length, MatchOption, MatchResult};
+ghost use Rattle.std.specs.List.{position};
+ghost use Rattle.std.specs.Str.{bytes_eq};
 ghost use Rattle.lists.specs.Bytes.{IsGroupName};
 ghost use Rattle.books.specs.Tables.{text_of};
 ghost use Rattle.texts.specs.Shown.{shown};
 ghost use Rattle.openings.specs.References.{Reference, Refers};
 ghost use Rattle.openings.specs.Opening.{Numbered, Known, Meets, Halts};
-ghost use Rattle.openings.specs.Holding.{names_in, known};
+ghost use Rattle.openings.specs.Naming.{name_of, names_in};
+ghost use Rattle.openings.specs.Holding.{known};
 ghost use Rattle.openings.specs.Meeting.{AllMet, HaltsIn};
 
 use super::known::KnownGroups;
@@ -22,14 +25,9 @@ use positions::Positions;
 
 // Where a name stands among others.
 fn place_of(names: &[GroupName], name: &[u8]) -> Option<usize>
-    ensures { MatchOption result (Known (names_in names.now) name.now → ⊥) (λ k. Numbered (names_in names.now) name.now k) }
+    ensures { result ≡ position (λ n. bytes_eq (name_of n) name.now) names.now }
 {
-    for (k, known) in names.iter().enumerate() {
-        if known.as_bytes() == name {
-            return Some(k);
-        }
-    }
-    None
+    names.iter().position(|known| known.as_bytes() == name)
 }
 
 impl KnownGroups {
@@ -43,12 +41,26 @@ impl KnownGroups {
         }
     }
 
+    /// The names of the groups that are known, in the order of meeting.
+    pub(crate) fn names(&self) -> &[GroupName]
+        ensures { names_in result.now ≡ known self.now }
+    {
+        let names = &self.names[..];
+        &names[..self.count]
+    }
+
     /// The number of a group that is known by this name.
     pub fn number_of(&self, name: &[u8]) -> Option<usize>
         ensures { MatchOption result (Known (known self.now) name.now → ⊥) (λ k. Numbered (known self.now) name.now k) }
     {
-        let names = &self.names[..];
-        place_of(&names[0..self.count], name)
+        place_of(self.names(), name)
+    }
+
+    /// The name of the group with this number.
+    pub(crate) fn name_at(&self, k: usize) -> Option<&GroupName>
+        ensures { MatchOption result (length (known self.now) ≤ k) (λ n. Numbered (known self.now) (name_of n.now) k) }
+    {
+        self.names().get(k)
     }
 
     /// Meets a reference to a group, and answers the group's number; or says why it cannot be met.
@@ -65,37 +77,28 @@ impl KnownGroups {
         if book.text_len(name).is_none() {
             return Err(Kind::GroupNotInBook);
         }
-        let Ok(held) = GroupName::new(name) else {
-            unreachable()
-        };
         let k = self.count;
-        self.names[k] = held;
-        self.count = k + 1;
+        self.names[k] = GroupName::new(name).unwrap();
+        self.count += 1;
         Ok(k)
     }
-    /// Meets the references of a text one after another, and answers the numbers of the groups that it names; or says
-    /// which of them cannot be met.
+
+    /// Meets the references of a text one after another, and answers the numbers of the groups that it names; or tells
+    /// the first that cannot be met, as a fault.
     pub(crate) fn meet_all<B: Book>(
         &mut self,
         list: &AccessList,
-        number: usize,
         book: &B,
     ) -> Result<Positions, Fault>
-        ensures { (rs : List Reference) → Refers (shown list.now.text) rs → MatchResult result (λ named. AllMet (text_of (B.Book.table book.now)) (known self.old) rs (known self.new) named.digits) (λ f. HaltsIn (text_of (B.Book.table book.now)) (known self.old) rs number f) }
+        ensures { (rs : List Reference) → Refers (shown list.now.text) rs → MatchResult result (λ named. AllMet (text_of (B.Book.table book.now)) (known self.old) rs (known self.new) named.digits) (λ f. HaltsIn (text_of (B.Book.table book.now)) (known self.old) rs f) }
     {
         let mut named = Positions::empty();
         for lexeme in list.tokens() {
             if let Token::Group(name) = lexeme.token {
-                match self.meet(name, book) {
-                    Ok(k) => named = named.insert(k),
-                    Err(kind) => {
-                        return Err(Fault {
-                            kind,
-                            text: number,
-                            place: lexeme.place,
-                        });
-                    }
-                }
+                let k = self
+                    .meet(name, book)
+                    .map_err(|kind| Fault::at(kind, lexeme.place))?;
+                named = named.insert(k);
             }
         }
         Ok(named)

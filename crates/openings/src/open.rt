@@ -2,19 +2,12 @@
 ghost use Rattle.std.specs.Prelude.{◌≡◌};
 ghost use Rattle.books.specs.Tables.{text_of};
 ghost use Rattle.openings.specs.Opening.{Meaning, Alike};
-ghost use Rattle.openings.specs.Opened.{names_of};
-ghost use Rattle.openings.specs.Holding.{names_in, known};
-ghost use Rattle.openings.specs.Gathering.{texts_in};
-ghost use Rattle.openings.specs.Answers.{list_of, groups_of, Answered};
+ghost use Rattle.openings.specs.Answers.{Answered};
 
 use super::gather::gather;
-use super::known::KnownGroups;
 use super::opened::Opened;
 use books::book::Book;
 use faults::fault::Fault;
-use faults::lawful::LawfulText;
-use links::Links;
-use lists::group_name::GroupName;
 use lists::list::AccessList;
 
 /// Opens the list through a book: finds every group that it reaches, reads and checks it; or tells the fault that is
@@ -26,13 +19,11 @@ pub fn open<B: Book>(list: &[u8], book: &B) -> Result<Opened, Fault>
     let list = AccessList::new(list)?;
     let groups = gather(&list, book)?;
     let leads = groups.links.closed();
-    match groups.first_circle(&leads) {
-        Some(fault) => Err(fault),
-        None => Ok(Opened {
-            list,
-            names: groups.known,
-            texts: groups.texts,
-            leads,
-        }),
-    }
+    groups.check_circles(&leads)?;
+    Ok(Opened {
+        list,
+        names: groups.known,
+        texts: groups.texts,
+        leads,
+    })
 }

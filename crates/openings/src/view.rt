@@ -1,7 +1,8 @@
 //! What an opened list holds.
 ghost use Rattle.std.specs.Prelude.{◌≡◌};
 ghost use Rattle.openings.specs.Opened.{names_of, texts_of};
-ghost use Rattle.openings.specs.Holding.{names_in, known};
+ghost use Rattle.openings.specs.Naming.{names_in};
+ghost use Rattle.openings.specs.Holding.{known};
 ghost use Rattle.openings.specs.Gathering.{text_in, texts_in};
 ghost use Rattle.openings.specs.Whole.{Tells};
 ghost use Rattle.openings.specs.Answers.{list_of, groups_of};
@@ -24,8 +25,7 @@ impl Opened {
     pub fn names(&self) -> &[GroupName]
         ensures { names_in result.now ≡ names_of (groups_of self.now) }
     {
-        let names = &self.names.names[..];
-        &names[0..self.names.count]
+        self.names.names()
     }
 
     /// The texts of these groups, in the same order.
@@ -33,7 +33,7 @@ impl Opened {
         ensures { texts_in result.now ≡ texts_of (groups_of self.now) }
     {
         let texts = &self.texts[..];
-        &texts[0..self.names.count]
+        &texts[..self.names.count]
     }
 
     /// The names with their numbers.

@@ -1,24 +1,25 @@
-use Rattle.std.proofs.Common.{refl, ap, ◌∙◌, subst}
-use Rattle.lists.specs.Texts.{LawfulList}
-use Rattle.lists.specs.Faults.{ListFault, long}
+use Rattle.std.proofs.Common.{◌≡◌, rules, sym, ap, ◌∙◌}
+use Rattle.std.proofs.lemmas.Result.{err_from_is_err_and, MatchResult-weaker}
+use Rattle.faults.specs.declared.kind.Kind.TheVariants.{TextTooLong}
+use Rattle.lists.specs.Faults.{long}
 use Rattle.books.specs.Tables.{text_of}
 use Rattle.openings.proofs.Copying.{copied_front, copied_long}
+use Rattle.openings.proofs.Outcomes.{err_source, ok_source}
 use Rattle.openings.proofs.read.read_group.Goals as goal
 
-pub returns-in_default : goal.returns-in_default
-returns-in_default g c text has =
+pub returns-in_err-len : goal.returns-in_err-len
+returns-in_err-len g c text has =
+    let p = err_from_is_err_and c.from_residual.result c.from_residual.ensures.1 in
     let there = ap (text_of (g.B.Book.table c.args.book.now)) c.as_bytes.ensures ∙ has in
-    let over = copied_long text _ there c.in_default.ensures.answer in
-    (_, (refl, long over))
+    let source = err_source _ _ c.copy_text.result c.in_err-len.ensures.cases in
+    let over = copied_long text _ there (sym source.1.0 ∙ c.copy_text.ensures.answer) in
+    let post = source.1.1 in
+    let is : c.in_err-len.field-0.0 ≡ record { kind = TextTooLong; text = 0; place = 512 } = search rules in
+    rw (p.1, p.2, is) (long over)
 
-pub returns-in-Ok-new : goal.returns-in-Ok-new
-returns-in-Ok-new g c text has =
+pub returns : goal.returns
+returns g c text has =
     let there = ap (text_of (g.B.Book.table c.args.book.now)) c.as_bytes.ensures ∙ has in
-    let all = copied_front text _ there c.in-Ok.ensures.answer c.in-Ok.ensures.buffer in
-    let new = c.in-Ok-new.ensures.answer in (new.0 ∙ all, subst LawfulList all new.1.lawful)
-
-pub returns-in-Err : goal.returns-in-Err
-returns-in-Err g c text has =
-    let there = ap (text_of (g.B.Book.table c.args.book.now)) c.as_bytes.ensures ∙ has in
-    let all = copied_front text _ there c.in-Ok.ensures.answer c.in-Ok.ensures.buffer in
-    (c.in-Err.fault, (c.in_text.ensures, subst (λ t. ListFault t c.in-Err.fault) all c.in-Err.ensures.answer.told))
+    let source = ok_source _ _ c.copy_text.result c.in_ok-len.ensures.cases in
+    let all = copied_front text _ there (sym source ∙ c.copy_text.ensures.answer) c.copy_text.ensures.buffer in
+    MatchResult-weaker c.new.result (rw all at c.new.ensures.answer) (λ l a. (a.0, a.1.lawful)) (λ f a. a.told)

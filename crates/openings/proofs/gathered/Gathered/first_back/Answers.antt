@@ -17,7 +17,7 @@ loop-lexeme-init c =
     let home = c.args.home in
     let Holds : List Reference → Type 0 = λ rs. (h : Name) → Named rs h → Back (known self.known) c.args.leads.now home h → ⊥ in
     let same = c.into_iter-lexeme-iterator.ensures.into_iter_gives in
-    let inside : home < length self.texts = omega (arith, self.room, c.requires.inside) in
+    let inside : home < length self.texts = omega (arith, c.requires) in
     let own = get_or-map text_in self.texts home c.index-self-home.result [] inside in (
       tt,
       tt,

@@ -6,8 +6,8 @@ use Rattle.openings.specs.Holding.{known}
 use Rattle.openings.proofs.Holding.{known_count}
 use Rattle.openings.proofs.Leading.{circle_fault, no_self, no_back, first_back}
 use Rattle.openings.proofs.Concluding.{text_refers}
-use Rattle.openings.proofs.gathered.Gathered.first_circle.Goals as goal
-use Rattle.openings.proofs.gathered.Gathered.first_circle.Goals.{then-has+in_default, else-has}
+use Rattle.openings.proofs.gathered.Gathered.check_circles.Goals as goal
+use Rattle.openings.proofs.gathered.Gathered.check_circles.Goals.{then-has+in_default, else-has}
 
 pub returns-in-Some : goal.returns-in-Some
 returns-in-Some c M list all closes =
@@ -15,7 +15,7 @@ returns-in-Some c M list all closes =
     let k = c.loop-k.k in
     let here : k < length (known self.known) = omega (arith, known_count self.known, c.loop-k-test.true) in
     let (rs, refers) = text_refers all k here in
-    circle_fault all (first_back all c.args.leads.now closes k here refers (c.in-Some.ensures rs refers) (c.loop-k.invariant M list all closes))
+    rw (c.in_text.ensures, c.at.ensures) (circle_fault all (first_back all c.args.leads.now closes k here refers (c.in-Some.ensures rs refers) (c.loop-k.invariant M list all closes)))
 
 pub loop-k-preserved : goal.loop-k-preserved
 loop-k-preserved c M list all closes j q le circle =

@@ -4,7 +4,7 @@ use Rattle.openings.specs.Circles.{OnCircle}
 use Rattle.openings.specs.Holding.{known}
 use Rattle.openings.specs.Gathering.{AllGathered}
 use Rattle.openings.specs.Backing.{Closes}
-use Rattle.openings.proofs.gathered.Gathered.first_circle.Given as goal
+use Rattle.openings.proofs.gathered.Gathered.check_circles.Given as goal
 
 -- no reference of the list or of the groups so far lies on a circle
 abbrev pub invariant-loop-k : goal.invariant-loop-k
