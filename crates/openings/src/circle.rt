@@ -1,18 +1,19 @@
 //! Looking for references that lie on a circle.
-ghost use Rattle.std.specs.Prelude.{◌≡◌, ℕ, ◌<◌, List, [], Decides, MatchOption, MatchResult, slice_index_or};
+ghost use Rattle.std.specs.Prelude.{ℕ, List, Decides, MatchOption, MatchResult};
 ghost use Rattle.openings.specs.References.{Reference, Refers};
 ghost use Rattle.openings.specs.Opening.{Name, Meaning};
 ghost use Rattle.openings.specs.Circles.{OnCircle};
 ghost use Rattle.openings.specs.Opened.{OpenFault};
 ghost use Rattle.openings.specs.Holding.{known};
 ghost use Rattle.openings.specs.Meeting.{Named};
-ghost use Rattle.openings.specs.Gathering.{texts_in, AllGathered};
+ghost use Rattle.openings.specs.Gathering.{text_in, AllGathered};
 ghost use Rattle.openings.specs.Backing.{Back, FirstBack, Closes};
 
 use super::gathered::Gathered;
 use faults::fault::Fault;
 use faults::kind::Kind;
 use links::Links;
+use lists::list::AccessList;
 use lists::token::Token;
 
 impl Gathered {
@@ -20,18 +21,16 @@ impl Gathered {
     fn leads_back(&self, name: &[u8], home: usize, leads: &Links) -> bool
         ensures { Decides result (Back (known self.now.known) leads.now home name.now) }
     {
-        match self.known.number_of(name) {
-            Some(k) => k == home || leads.has(k, home),
-            None => false,
-        }
+        self.known
+            .number_of(name)
+            .is_some_and(|k| k == home || leads.has(k, home))
     }
 
-    // The place of the first reference in a group's text that leads back to the group.
-    fn first_back(&self, home: usize, leads: &Links) -> Option<usize>
-        requires { home < 32 }
-        ensures { (rs : List Reference) → Refers (slice_index_or (texts_in self.now.texts) home []) rs → MatchOption result ((g : Name) → Named rs g → Back (known self.now.known) leads.now home g → ⊥) (λ place. FirstBack (known self.now.known) leads.now home rs place) }
+    // The place of the first reference in the text of the group at home that leads back to it.
+    fn first_back(&self, text: &AccessList, home: usize, leads: &Links) -> Option<usize>
+        ensures { (rs : List Reference) → Refers (text_in text.now) rs → MatchOption result ((g : Name) → Named rs g → Back (known self.now.known) leads.now home g → ⊥) (λ place. FirstBack (known self.now.known) leads.now home rs place) }
     {
-        for lexeme in self.texts[home].tokens() {
+        for lexeme in text.tokens() {
             if let Token::Group(name) = lexeme.token {
                 if self.leads_back(name, home, leads) {
                     return Some(lexeme.place);
@@ -47,7 +46,7 @@ impl Gathered {
     {
         for k in 0..self.known.count {
             if leads.has(k, k) {
-                if let Some(place) = self.first_back(k, leads) {
+                if let Some(place) = self.first_back(&self.texts[k], k, leads) {
                     return Err(Fault::at(Kind::GroupLeadsToItself, place).in_text(k + 1));
                 }
             }

@@ -7,6 +7,7 @@ use links::MAX_GROUPS;
 use lists::group_name::GroupName;
 
 /// The names of the groups that have been met, in the order of meeting. No name stands twice.
+// An array with its count, and no ArrayVec: that is not Copy, as this is.
 #[derive(Clone, Copy)]
 pub struct KnownGroups {
     pub(crate) names: [GroupName; MAX_GROUPS],

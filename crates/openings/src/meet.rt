@@ -45,8 +45,7 @@ impl KnownGroups {
     pub(crate) fn names(&self) -> &[GroupName]
         ensures { names_in result.now ≡ known self.now }
     {
-        let names = &self.names[..];
-        &names[..self.count]
+        &self.names[..self.count]
     }
 
     /// The number of a group that is known by this name.

@@ -11,6 +11,7 @@ use lists::list::AccessList;
 
 /// A list with all the groups that it reaches, in the order in which they were met. Its references all lead to one
 /// of them, and never in a circle.
+// Names and texts stand apart: a name is met before its text is read, and each is lent as a slice of its own.
 #[derive(Clone, Copy)]
 pub struct Opened {
     pub(crate) list: AccessList,

@@ -32,8 +32,7 @@ impl Opened {
     pub fn texts(&self) -> &[AccessList]
         ensures { texts_in result.now ≡ texts_of (groups_of self.now) }
     {
-        let texts = &self.texts[..];
-        &texts[..self.names.count]
+        &self.texts[..self.names.count]
     }
 
     /// The names with their numbers.

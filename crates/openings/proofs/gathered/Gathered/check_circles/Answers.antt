@@ -1,7 +1,10 @@
-use Rattle.std.proofs.Common.{◌≡◌, ◌+◌, ◌<◌, length, sym, ◌∙◌, subst, ⊎_elim, arith}
+use Rattle.std.proofs.Common.{◌≡◌, rules, [], ◌+◌, ◌<◌, length, sym, ◌∙◌, subst, ⊎_elim, arith}
 use borrow.Author.Tests.{clash}
 use Rattle.std.proofs.lemmas.Bool.{cases_lt}
+use Rattle.std.proofs.lemmas.List.{get_or-map}
+use Rattle.openings.specs.References.{Refers}
 use Rattle.openings.specs.Circles.{OnCircle}
+use Rattle.openings.specs.Gathering.{text_in}
 use Rattle.openings.specs.Holding.{known}
 use Rattle.openings.proofs.Holding.{known_count}
 use Rattle.openings.proofs.Leading.{circle_fault, no_self, no_back, first_back}
@@ -13,20 +16,25 @@ pub returns-in-Some : goal.returns-in-Some
 returns-in-Some c M list all closes =
     let self = c.args.self.now in
     let k = c.loop-k.k in
+    let size : length self.texts ≡ 32 = search rules in
     let here : k < length (known self.known) = omega (arith, known_count self.known, c.loop-k-test.true) in
     let (rs, refers) = text_refers all k here in
-    rw (c.in_text.ensures, c.at.ensures) (circle_fault all (first_back all c.args.leads.now closes k here refers (c.in-Some.ensures rs refers) (c.loop-k.invariant M list all closes)))
+    let own = get_or-map text_in self.texts k c.index-self-k.result [] (omega (arith, c.loop-k-test.true, self.known.few, size)) in
+    rw (c.in_text.ensures, c.at.ensures) (circle_fault all (first_back all c.args.leads.now closes k here refers (c.in-Some.ensures rs (subst (λ t. Refers t rs) own refers)) (c.loop-k.invariant M list all closes)))
 
 pub loop-k-preserved : goal.loop-k-preserved
 loop-k-preserved c M list all closes j q le circle =
     let self = c.args.self.now in
     let leads = c.args.leads.now in
     let k = c.loop-k.k in
+    let size : length self.texts ≡ 32 = search rules in
     let here : k < length (known self.known) = omega (arith, known_count self.known, c.loop-k-test.true) in
     let (rs, refers) = text_refers all k here in
     let none : OnCircle M (known self.known) (k + 1) q → ⊥ =
     elim c.if-has.branch [
-      | then-has+in_default w ↦ no_back all leads closes k here refers (w.in_default.ensures rs refers) q
+      | then-has+in_default w ↦
+          let own = get_or-map text_in self.texts k w.index-self-k.result [] (omega (arith, c.loop-k-test.true, self.known.few, size)) in
+          no_back all leads closes k here refers (w.in_default.ensures rs (subst (λ t. Refers t rs) own refers)) q
       | else-has w ↦ no_self all leads closes k here (λ l. clash (sym w.if-has.false ∙ c.has.ensures.1 l)) q
     ] in
     ⊎_elim

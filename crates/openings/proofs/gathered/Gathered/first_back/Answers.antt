@@ -1,12 +1,11 @@
-use Rattle.std.proofs.Common.{◌<◌, List, [], ◌∷◌, length, get_or, sym, ap, ◌∙◌, subst, ⊎_elim, arith}
+use Rattle.std.proofs.Common.{List, ◌∷◌, sym, ap, ◌∙◌, subst, ⊎_elim}
 use borrow.Author.Tests.{clash}
-use Rattle.std.proofs.lemmas.List.{get_or-map}
 use Rattle.lists.specs.Lexemes.{sign}
 use Rattle.openings.specs.References.{Reference, references_of}
 use Rattle.openings.specs.Opening.{Name}
 use Rattle.openings.specs.Holding.{known}
 use Rattle.openings.specs.Meeting.{Named}
-use Rattle.openings.specs.Gathering.{text_in, texts_in}
+use Rattle.openings.specs.Gathering.{text_in}
 use Rattle.openings.specs.Backing.{Back}
 use Rattle.openings.proofs.Walking.{Passing, walked, no_reference, named_more, pass_start, pass_other, pass_here, pass_reference, pass_end}
 use Rattle.openings.proofs.gathered.Gathered.first_back.Goals as goal
@@ -16,13 +15,11 @@ loop-lexeme-init c =
     let self = c.args.self.now in
     let home = c.args.home in
     let Holds : List Reference → Type 0 = λ rs. (h : Name) → Named rs h → Back (known self.known) c.args.leads.now home h → ⊥ in
-    let same = c.into_iter-lexeme-iterator.ensures.into_iter_gives in
-    let inside : home < length self.texts = omega (arith, c.requires) in
-    let own = get_or-map text_in self.texts home c.index-self-home.result [] inside in (
+    let same = c.into_iter-lexeme-iterator.ensures.into_iter_gives in (
       tt,
       tt,
-      ap (λ t. t.text.now) same ∙ c.tokens-lexeme-items.ensures.text ∙ sym own,
-      λ ps p. subst (Passing (get_or (texts_in self.texts) home []) Holds ps) (sym (ap (λ t. t.at) same ∙ c.tokens-lexeme-items.ensures.start)) (pass_start Holds (λ h n b. n) p),
+      ap (λ t. t.text.now) same ∙ c.tokens-lexeme-items.ensures.text,
+      λ ps p. subst (Passing (text_in c.args.text.now) Holds ps) (sym (ap (λ t. t.at) same ∙ c.tokens-lexeme-items.ensures.start)) (pass_start Holds (λ h n b. n) p),
     )
 
 pub loop-lexeme-preserved : goal.loop-lexeme-preserved
