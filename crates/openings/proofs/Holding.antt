@@ -35,8 +35,10 @@ pub known_count : (k : KnownGroups) → length (known k) ≡ k.count
 known_count k = length-map (take k.count k.names) name_of ∙ length-take k.count k.names ∙ omega (arith, k.few, k.room)
 
 -- one name more
-pub names_more : (ns : List GroupName) (n : ℕ) (x : GroupName) → n < length ns → names_in (take (n + 1) (set ns n x)) ≡ names_in (take n ns) ++ (name_of x ∷ [])
-names_more ns n x lt = ap (λ k. names_in (take k (set ns n x))) (add-one n) ∙ ap names_in (take-suc-set ns n x lt) ∙ map-append name_of (take n ns) (x ∷ [])
+pub names_more : (K : KnownGroups) (n : GroupName) (g : Name) → length (known K) < 32 → name_of n ≡ g → names_in (take (K.count + 1) (set K.names K.count n)) ≡ known K ++ (g ∷ [])
+names_more K n g few held =
+    let room : K.count < length K.names = omega (arith, K.room, known_count K, few) in
+    ap (λ k. names_in (take k (set K.names K.count n))) (add-one K.count) ∙ ap names_in (take-suc-set K.names K.count n room) ∙ map-append name_of (take K.count K.names) (n ∷ []) ∙ ap (λ h. known K ++ (h ∷ [])) held
 
 -- the last name has the last number
 pub last_numbered : (gs : List Name) (g : Name) (n : ℕ) → length gs ≡ n → Numbered (gs ++ (g ∷ [])) g n

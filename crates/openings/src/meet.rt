@@ -1,5 +1,5 @@
 //! Meeting the references of a text, from left to right.
-ghost use Rattle.std.specs.Prelude.{◌≡◌, ℕ, ◌<◌, ◌≤◌, List, [], ◌∷◌, length, MatchOption, MatchResult};
+ghost use Rattle.std.specs.Prelude.{◌≡◌, ℕ, ◌<◌, ◌≤◌, List, [], ◌∷◌, length, Decides, MatchOption, MatchResult};
 ghost use Rattle.std.specs.List.{position};
 ghost use Rattle.std.specs.Str.{bytes_eq};
 ghost use Rattle.lists.specs.Bytes.{IsGroupName};
@@ -48,6 +48,14 @@ impl KnownGroups {
         &self.names[..self.count]
     }
 
+    // Whether no further group can be known.
+    #[tactic(auto, using(crate::proofs::Holding::known_count))]
+    fn is_full(&self) -> bool
+        ensures { Decides result (length (known self.now) ≡ 32) }
+    {
+        self.count == MAX_GROUPS
+    }
+
     /// The number of a group that is known by this name.
     pub fn number_of(&self, name: &[u8]) -> Option<usize>
         ensures { MatchOption result (Known (known self.now) name.now → ⊥) (λ k. Numbered (known self.now) name.now k) }
@@ -70,7 +78,7 @@ impl KnownGroups {
         if let Some(k) = self.number_of(name) {
             return Ok(k);
         }
-        if self.count == MAX_GROUPS {
+        if self.is_full() {
             return Err(Kind::TooManyGroups);
         }
         if book.text_len(name).is_none() {
