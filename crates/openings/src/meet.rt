@@ -57,6 +57,7 @@ impl KnownGroups {
     }
 
     /// The number of a group that is known by this name.
+    #[tactic(auto, using(crate::proofs::Holding::place_numbered))]
     pub fn number_of(&self, name: &[u8]) -> Option<usize>
         ensures { MatchOption result (Known (known self.now) name.now → ⊥) (λ k. Numbered (known self.now) name.now k) }
     {

@@ -22,6 +22,7 @@ impl Opened {
     }
 
     /// The names of the groups that it reaches, in the order of meeting.
+    #[tactic(auto, using(crate::proofs::Viewing::view_names))]
     pub fn names(&self) -> &[GroupName]
         ensures { names_in result.now ≡ names_of (groups_of self.now) }
     {
@@ -29,6 +30,7 @@ impl Opened {
     }
 
     /// The texts of these groups, in the same order.
+    #[tactic(auto, using(crate::proofs::Viewing::view_texts))]
     pub fn texts(&self) -> &[AccessList]
         ensures { texts_in result.now ≡ texts_of (groups_of self.now) }
     {
@@ -36,6 +38,7 @@ impl Opened {
     }
 
     /// The names with their numbers.
+    #[tactic(auto, using(crate::proofs::Viewing::view_names))]
     pub fn known(&self) -> &KnownGroups
         ensures { known result.now ≡ names_of (groups_of self.now) }
     {

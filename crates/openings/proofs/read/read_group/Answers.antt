@@ -1,10 +1,10 @@
 use Rattle.std.proofs.Common.{◌≡◌, rules, sym, ap, ◌∙◌}
-use Rattle.std.proofs.lemmas.Result.{err_from_is_err_and, MatchResult-weaker}
+use Rattle.std.proofs.lemmas.Result.{err_from_is_err_and}
 use Rattle.faults.specs.declared.kind.Kind.TheVariants.{TextTooLong}
 use Rattle.lists.specs.Faults.{long}
 use Rattle.books.specs.Tables.{text_of}
-use Rattle.openings.proofs.Copying.{copied_front, copied_long}
-use Rattle.openings.proofs.Outcomes.{err_source, ok_source}
+use Rattle.openings.proofs.Copying.{copied_long}
+use Rattle.openings.proofs.Outcomes.{err_source}
 use Rattle.openings.proofs.read.read_group.Goals as goal
 
 pub returns-in_err-len : goal.returns-in_err-len
@@ -16,10 +16,3 @@ returns-in_err-len g c text has =
     let post = source.1.1 in
     let is : c.in_err-len.field-0.0 ≡ record { kind = TextTooLong; text = 0; place = 512 } = search rules in
     rw (p.1, p.2, is) (long over)
-
-pub returns : goal.returns
-returns g c text has =
-    let there = ap (text_of (g.B.Book.table c.args.book.now)) c.as_bytes.ensures ∙ has in
-    let source = ok_source _ _ c.copy_text.result c.in_ok-len.ensures.cases in
-    let all = copied_front text _ there (sym source ∙ c.copy_text.ensures.answer) c.copy_text.ensures.buffer in
-    MatchResult-weaker c.new.result (rw all at c.new.ensures.answer) (λ l a. (a.0, a.1.lawful)) (λ f a. a.told)

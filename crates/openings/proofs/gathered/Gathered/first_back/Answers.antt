@@ -1,13 +1,13 @@
 use Rattle.std.proofs.Common.{List, ◌∷◌, sym, ap, ◌∙◌, subst, ⊎_elim}
 use borrow.Author.Tests.{clash}
 use Rattle.lists.specs.Lexemes.{sign}
-use Rattle.openings.specs.References.{Reference, references_of}
+use Rattle.openings.specs.References.{Reference}
 use Rattle.openings.specs.Opening.{Name}
 use Rattle.openings.specs.Holding.{known}
 use Rattle.openings.specs.Meeting.{Named}
 use Rattle.openings.specs.Gathering.{text_in}
 use Rattle.openings.specs.Backing.{Back}
-use Rattle.openings.proofs.Walking.{Passing, walked, no_reference, named_more, pass_start, pass_other, pass_here, pass_reference, pass_end}
+use Rattle.openings.proofs.Walking.{Passing, walked, named_more, pass_start, pass_reference}
 use Rattle.openings.proofs.gathered.Gathered.first_back.Goals as goal
 
 pub loop-lexeme-init : goal.loop-lexeme-init
@@ -20,18 +20,6 @@ loop-lexeme-init c =
       tt,
       ap (λ t. t.text.now) same ∙ c.tokens-lexeme-items.ensures.text,
       λ ps p. subst (Passing (text_in c.args.text.now) Holds ps) (sym (ap (λ t. t.at) same ∙ c.tokens-lexeme-items.ensures.start)) (pass_start Holds (λ h n b. n) p),
-    )
-
-pub loop-lexeme-preserved : goal.loop-lexeme-preserved
-loop-lexeme-preserved c =
-    let walks = c.in-Some.ensures.steps in (
-      tt,
-      tt,
-      walks.kept ∙ c.loop-lexeme.invariant.2,
-      λ ps p.
-          let u = c.loop-lexeme.invariant.3 ps p in
-          let (rest, step) = walked c.loop-lexeme.invariant.2 walks u.left u.placed in
-          pass_other u rest (ap references_of step.0 ∙ no_reference c.in-Some.lexeme.token c.in_default.not-Group c.in-Some.lexeme.place (references_of rest)) step.1,
     )
 
 pub loop-lexeme-preserved-else-leads_back : goal.loop-lexeme-preserved-else-leads_back
@@ -49,23 +37,3 @@ loop-lexeme-preserved-else-leads_back c =
           pass_reference u rest (step.0 ∙ ap (λ t. (c.in-Some.lexeme.place, sign t) ∷ rest) c.in-Group.is) step.1
           (λ h n b. ⊎_elim (λ was. u.holds h was b) (λ e. no (subst Is (sym e) b)) (named_more u.done _ n)),
     )
-
-pub returns-then-leads_back : goal.returns-then-leads_back
-returns-then-leads_back c rs refers =
-    let u = c.loop-lexeme.invariant.3 refers.tokens refers.placed in
-    let (rest, step) = walked c.loop-lexeme.invariant.2 c.in-Some.ensures.steps u.left u.placed in
-    record {
-      before = u.done;
-      name = c.in-Group.name.now;
-      after = references_of rest;
-      whole = refers.these ∙ pass_here u rest (step.0 ∙ ap (λ t. (c.in-Some.lexeme.place, sign t) ∷ rest) c.in-Group.is);
-      leads_back = c.leads_back.ensures.0 c.if-leads_back.true;
-      none_before = u.holds;
-    }
-
-pub returns : goal.returns
-returns c rs refers =
-    let self = c.args.self.now in
-    let Holds : List Reference → Type 0 = λ rs. (h : Name) → Named rs h → Back (known self.known) c.args.leads.now c.args.home h → ⊥ in
-    let u = c.loop-lexeme.invariant.3 refers.tokens refers.placed in
-    subst Holds (sym refers.these) (pass_end u (walked c.loop-lexeme.invariant.2 c.in-None.ensures.steps u.left u.placed))

@@ -10,7 +10,7 @@ use Rattle.openings.proofs.Holding.{known_count}
 use Rattle.std.proofs.lemmas.Result.{err_from_is_err_and}
 use Rattle.openings.proofs.Outcomes.{err_source, ok_source}
 use Rattle.openings.proofs.Meeting.{halts_append}
-use Rattle.openings.proofs.Walking.{Passing, walked, no_reference, pass_start, pass_other, pass_here, pass_reference, pass_end, none_met, one_met}
+use Rattle.openings.proofs.Walking.{Passing, walked, pass_start, pass_here, pass_reference, none_met, one_met}
 use Rattle.openings.proofs.known.KnownGroups.meet_all.Goals as goal
 
 pub loop-lexeme-init : goal.loop-lexeme-init
@@ -51,20 +51,3 @@ returns-in_err-k g c rs refers =
     let halts = rw source.1.0 at c.meet.ensures in
     let is : c.in_err-k.field-0.0 ≡ record { kind = source.0; text = 0; place = place } = search rules in
     rw (p.1, p.2, is) (record { first = refl; halts = subst (λ rs. Halts M (known c.args.self.now) rs source.0 place) (sym all) (halts_append u.holds.met (halts place (references_of rest))) })
-
-pub loop-lexeme-preserved : goal.loop-lexeme-preserved
-loop-lexeme-preserved g c =
-    let walks = c.in-Some.ensures.steps in (
-      tt,
-      tt,
-      walks.kept ∙ c.loop-lexeme.invariant.2,
-      λ ps p.
-          let u = c.loop-lexeme.invariant.3 ps p in
-          let (rest, step) = walked c.loop-lexeme.invariant.2 walks u.left u.placed in
-          pass_other u rest (ap references_of step.0 ∙ no_reference c.in-Some.lexeme.token c.in_default.not-Group c.in-Some.lexeme.place (references_of rest)) step.1,
-    )
-
-pub returns : goal.returns
-returns g c rs refers =
-    let u = c.loop-lexeme.invariant.3 refers.tokens refers.placed in
-    subst (λ rs. AllMet (text_of (g.B.Book.table c.args.book.now)) (known c.args.self.now) rs (known c.loop-lexeme.self) c.loop-lexeme.named.digits) (sym refers.these) (pass_end u (walked c.loop-lexeme.invariant.2 c.in-None.ensures.steps u.left u.placed))
