@@ -1,5 +1,5 @@
 -- The names that an opening holds, as a list.
-use Rattle.std.proofs.Common.{◌≡◌, ℕ, ◌+◌, ◌<◌, ◌≤◌, Bool, true, false, List, [], ◌∷◌, ◌++◌, length, get_or, take, set, is_some, Some, None, Option, sym, refl, ap, ◌∙◌, add-one, arith, length-take, get_or-take, take-suc-set, MatchOption}
+use Rattle.std.proofs.Common.{◌≡◌, ℕ, ◌+◌, ◌<◌, ◌≤◌, Bool, true, false, List, [], ◌∷◌, ◌++◌, length, take, set, is_some, Some, None, Option, sym, refl, ap, ◌∙◌, add-one, arith, length-take, take-suc-set, MatchOption}
 use mathlib.Core.List.{map-append}
 use borrow.Author.Tests.{clash}
 use lib.ListN.{length-map}
@@ -52,9 +52,3 @@ no_length (Some t) l e f = absurd (clash (sym f ∙ ap is_some e))
 pub some_length : (o : Option (List ℕ)) (l : Option ℕ) → l ≡ option_map length o → is_some l ≡ true → is_some o ≡ true
 some_length None l e f = absurd (clash (sym (ap is_some e) ∙ f))
 some_length (Some t) l e f = refl
-
--- the name of a group that is known
-pub name_known : (K : KnownGroups) (k : ℕ) (d : GroupName) → k < K.count → get_or (known K) k [] ≡ name_of (get_or K.names k d)
-name_known K k d lt =
-    let size : length (take K.count K.names) ≡ K.count = length-take K.count K.names ∙ omega (arith, K.few, K.room) in
-    get_or-map name_of (take K.count K.names) k d [] (omega arith) ∙ ap name_of (get_or-take K.count K.names k d lt)

@@ -1,13 +1,11 @@
 -- Meeting the references of a text while its tokens are walked.
-use Rattle.std.proofs.Common.{◌≡◌, ℕ, ◌<◌, ◌⊎◌, ◌↔◌, List, [], ◌∷◌, ◌++◌, Option, sym, refl, ap, ◌∙◌, subst, inl, inr, ⊎_elim, append_assoc, append-nil, Bor, MatchOption}
+use Rattle.std.proofs.Common.{◌≡◌, ℕ, ◌<◌, ◌⊎◌, ◌↔◌, List, [], ◌∷◌, ◌++◌, Option, sym, refl, ap, ◌∙◌, subst, inl, inr, ⊎_elim, append_assoc, MatchOption}
 use Rattle.positions.specs.Places.{Has}
 use Rattle.lists.specs.Trees.{Sign, group}
-use Rattle.lists.specs.declared.token.Token.{Token}
-use Rattle.lists.specs.declared.token.Token.TheVariants.{Word, Dot, At, Plus, Any, Open, Close, Star, Bar, Group}
 use Rattle.lists.specs.declared.token.Lexeme.{Lexeme}
 use Rattle.lists.specs.Lexemes.{sign}
 use Rattle.lists.specs.Placed.{Placed, Walks}
-use Rattle.openings.specs.References.{Reference, noted, references_of}
+use Rattle.openings.specs.References.{Reference, references_of}
 use Rattle.openings.specs.Opening.{Name, Meaning, Numbered, Meets, again, new, met, meet}
 use Rattle.openings.specs.Meeting.{Named, AllMet}
 use Rattle.openings.proofs.Meeting.{meets_append}
@@ -38,19 +36,6 @@ named_last (x ∷ rs) r = inr (named_last rs r)
 pub walked : {text here text' : List ℕ} {at at' : ℕ} {given : Option Lexeme} → text ≡ here → Walks text at given text' at' → (left : List (ℕ × Sign)) → Placed here at left → MatchOption given (left ≡ []) (λ l. (rest : List (ℕ × Sign)) × ((left ≡ (l.place, sign l.token) ∷ rest) × Placed here at' rest))
 walked {at = at} {at' = at'} {given = given} e w = subst (λ t. (left : List (ℕ × Sign)) → Placed t at left → MatchOption given (left ≡ []) (λ l. (rest : List (ℕ × Sign)) × ((left ≡ (l.place, sign l.token) ∷ rest) × Placed t at' rest))) e w.token
 
--- a token that is no group's adds no reference
-pub no_reference : (t : Token) → ((name : Bor (List ℕ)) → t ≡ Group name → ⊥) → (place : ℕ) (rs : List Reference) → noted place (sign t) rs ≡ rs
-no_reference (Word w) n place rs = refl
-no_reference Dot n place rs = refl
-no_reference At n place rs = refl
-no_reference Plus n place rs = refl
-no_reference Any n place rs = refl
-no_reference Open n place rs = refl
-no_reference Close n place rs = refl
-no_reference Star n place rs = refl
-no_reference Bar n place rs = refl
-no_reference (Group g) n place rs = absurd (n g refl)
-
 -- The walk stands at a place: something holds of the references before it, and the tokens that are left lie ahead.
 pub record Passing (text : List ℕ) (Holds : List Reference → Type 0) (ps : List (ℕ × Sign)) (at : ℕ) : Type 0 where
   pub done : List Reference
@@ -63,10 +48,6 @@ module _ {text : List ℕ} {ps : List (ℕ × Sign)} where
   pub pass_start : (Holds : List Reference → Type 0) → Holds [] → Placed text 0 ps → Passing text Holds ps 0
   pass_start Holds h p = record { done = []; left = ps; whole = refl; placed = p; holds = h }
 
-  -- a token that is no reference
-  pub pass_other : {Holds : List Reference → Type 0} {at at' : ℕ} (u : Passing text Holds ps at) (rest : List (ℕ × Sign)) → references_of u.left ≡ references_of rest → Placed text at' rest → Passing text Holds ps at'
-  pass_other u rest e p = record { done = u.done; left = rest; whole = u.whole ∙ ap (λ rs. u.done ++ rs) e; placed = p; holds = u.holds }
-
   -- the references are those before, the one that is given, and those ahead
   pub pass_here : {Holds : List Reference → Type 0} {at place : ℕ} {g : Name} (u : Passing text Holds ps at) (rest : List (ℕ × Sign)) → u.left ≡ (place, group g) ∷ rest → references_of ps ≡ u.done ++ (record { place = place; name = g } ∷ references_of rest)
   pass_here u rest e = u.whole ∙ ap (λ left. u.done ++ references_of left) e
@@ -76,10 +57,6 @@ module _ {text : List ℕ} {ps : List (ℕ × Sign)} where
   pass_reference {place = place} {g = g} u rest e p h =
       let r : Reference = record { place = place; name = g } in
       record { done = u.done ++ (r ∷ []); left = rest; whole = pass_here u rest e ∙ sym (append_assoc u.done (r ∷ []) (references_of rest)); placed = p; holds = h }
-
-  -- no token is left
-  pub pass_end : {Holds : List Reference → Type 0} {at : ℕ} (u : Passing text Holds ps at) → u.left ≡ [] → Holds (references_of ps)
-  pass_end {Holds} u e = subst Holds (sym (u.whole ∙ ap (λ left. u.done ++ references_of left) e ∙ append-nil u.done)) u.holds
 
 module _ {M : Meaning} {gs₀ : List Name} where
   pub none_met : (named : ℕ) → ((k : ℕ) → Has named k → ⊥) → AllMet M gs₀ [] gs₀ named
