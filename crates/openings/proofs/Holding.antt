@@ -1,5 +1,5 @@
 -- The names that an opening holds, as a list.
-use Rattle.std.proofs.Common.{◌≡◌, ℕ, ◌+◌, ◌<◌, ◌≤◌, Bool, true, false, List, [], ◌∷◌, ◌++◌, length, take, set, is_some, Some, None, Option, sym, refl, ap, ◌∙◌, add-one, arith, length-take, take-suc-set, MatchOption}
+use Rattle.std.proofs.Common.{◌≡◌, ℕ, ◌+◌, ◌<◌, ◌≤◌, Bool, true, false, List, [], ◌∷◌, ◌++◌, length, take, set, is_some, Some, None, Option, sym, ap, ◌∙◌, add-one, arith, length-take, take-suc-set, MatchOption}
 use mathlib.Core.List.{map-append}
 use borrow.Author.Tests.{clash}
 use lib.ListN.{length-map}
@@ -46,9 +46,7 @@ last_numbered gs g n e = record { below = omega (arith, length-append gs (g ∷ 
 
 -- a text's length is there exactly if the text is
 pub no_length : (o : Option (List ℕ)) (l : Option ℕ) → l ≡ option_map length o → is_some l ≡ false → o ≡ None
-no_length None l e f = refl
-no_length (Some t) l e f = absurd (clash (sym f ∙ ap is_some e))
+no_length o l e f = grind (arith, common_steps)
 
 pub some_length : (o : Option (List ℕ)) (l : Option ℕ) → l ≡ option_map length o → is_some l ≡ true → is_some o ≡ true
-some_length None l e f = absurd (clash (sym (ap is_some e) ∙ f))
-some_length (Some t) l e f = refl
+some_length o l e f = grind (arith, common_steps)

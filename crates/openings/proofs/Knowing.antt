@@ -2,6 +2,7 @@
 use Rattle.std.proofs.Common.{◌≡◌, ℕ, zero, suc, ◌⊎◌, List, [], ◌∷◌, ◌++◌, length, sym, ◌∙◌, inl, inr, ⊎_elim, arith}
 use Rattle.std.proofs.lemmas.List.{length_push, get_or_push, get_or_append_left}
 use Rattle.std.proofs.lemmas.Bool.{cases_lt}
+use Rattle.std.proofs.lemmas.Grind.{common_steps}
 use Rattle.openings.specs.Opening.{Name, Numbered, Known, Distinct}
 
 -- a name is known that is known among all but the first
@@ -19,7 +20,7 @@ known_cases {gs} {g} {h} k = by_number k.0 k.1
 module _ (gs : List Name) (h : Name) where
   -- a name keeps its number
   pub push_keeps : {g : Name} {k : ℕ} → Numbered gs g k → Numbered (gs ++ (h ∷ [])) g k
-  push_keeps {k = k} n = record { below = omega (arith, length_push gs h, n.below); is = get_or_append_left gs _ [] k n.below ∙ n.is }
+  push_keeps {k = k} n = record { below = grind (arith, common_steps, n.below); is = grind (arith, common_steps, n.below, n.is) }
 
   -- the one that is put at the end is known
   pub push_known : Known (gs ++ (h ∷ [])) h

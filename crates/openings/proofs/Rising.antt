@@ -1,6 +1,6 @@
 -- The places of the references of a text rise from left to right.
 use Rattle.std.proofs.Common.{◌≡◌, ℕ, ◌≤◌, ◌⊎◌, List, [], ◌∷◌, ◌++◌, sym, subst, inl, inr, ⊎_elim, arith}
-use Rattle.lists.specs.Trees.{Sign, atom, group, open_bracket, close_bracket, star, bar}
+use Rattle.lists.specs.Trees.{Sign}
 use Rattle.lists.specs.Placed.{Placed, none, more}
 use Rattle.openings.specs.References.{Reference, noted, references_of, Refers, RefersAt}
 use Rattle.openings.specs.Opening.{Name}
@@ -27,20 +27,10 @@ from_at (b ∷ before) after r f = from_at before after r f.1
 
 -- one more token in front, which begins at a place or after it
 from_noted : {at place : ℕ} (s : Sign) (rs : List Reference) → at ≤ place → From at rs → From at (noted place s rs)
-from_noted (atom a) rs le f = f
-from_noted (group g) rs le f = (le, f)
-from_noted open_bracket rs le f = f
-from_noted close_bracket rs le f = f
-from_noted star rs le f = f
-from_noted bar rs le f = f
+from_noted s rs le f = grind arith
 
 rising_noted : (place : ℕ) (s : Sign) (rs : List Reference) → From place rs → Rising rs → Rising (noted place s rs)
-rising_noted place (atom a) rs f up = up
-rising_noted place (group g) rs f up = (f, up)
-rising_noted place open_bracket rs f up = up
-rising_noted place close_bracket rs f up = up
-rising_noted place star rs f up = up
-rising_noted place bar rs f up = up
+rising_noted place s rs f up = grind arith
 
 -- the references of the tokens from a place on are at that place or after it
 placed_from : {text : List ℕ} {at : ℕ} {ps : List (ℕ × Sign)} → Placed text at ps → From at (references_of ps)
