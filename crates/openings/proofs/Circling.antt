@@ -4,6 +4,7 @@ use Rattle.openings.specs.References.{Reference, Refers, RefersAt}
 use Rattle.openings.specs.Opening.{Name, Meaning, Known, ChecksFor, TextAt, the_list, the_group, ReadTo, start, turn}
 use Rattle.openings.specs.Circles.{Names, Leads, here, on, ListLeads, OnCircle}
 use Rattle.openings.proofs.Meeting.{known_checked, checked_named}
+use Rattle.openings.proofs.Collecting.{named_refers}
 use Rattle.openings.proofs.Turns.{references_known}
 
 module _ {M : Meaning} where
@@ -11,10 +12,6 @@ module _ {M : Meaning} where
   leads_on : {g h m : Name} → Leads M g h → Names M h m → Leads M g m
   leads_on here n = on n here
   leads_on (on n l) m = on n (leads_on l m)
-
-  -- a name that is checked for is one that the text refers to
-  checked_refers : {gs : List Name} {text : List ℕ} {rs : List Reference} {g : Name} → Refers text rs → ChecksFor M gs rs g → (place : ℕ) × RefersAt text place g
-  checked_refers {text = text} f c = let n = checked_named c in (n.2, record { before = n.0; after = n.1; refers = subst (Refers text) n.3 f })
 
 module _ {M : Meaning} {list : List ℕ} where
   module _ {gs : List Name} (all : ReadTo M list (length gs + 1) gs) where
@@ -41,7 +38,7 @@ module _ {M : Meaning} {list : List ℕ} where
   -- the list leads to every group that is known
   pub known_led : {gs : List Name} {n : ℕ} → ReadTo M list n gs → (g : Name) → Known gs g → ListLeads M list g
   known_led start g k = absurd (omega (arith, k.1.below))
-  known_led (turn is r at l f ms) g k = ⊎_elim (known_led r g) (λ c. named_led (known_led r) at (checked_refers f c).1) (known_checked ms k)
+  known_led (turn is r at l f ms) g k = ⊎_elim (known_led r g) (λ c. named_led (known_led r) at (named_refers f (checked_named c)).1) (known_checked ms k)
 
 module _ {M M' : Meaning} {list : List ℕ} {gs : List Name} (all : ReadTo M list (length gs + 1) gs) (agree : (g : Name) → Known gs g → M' g ≡ M g) where
   -- known groups name the same by meanings that agree on them

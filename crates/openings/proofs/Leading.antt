@@ -8,7 +8,7 @@ use Rattle.links.specs.Links.{Linked, Chain, one, more}
 use Rattle.books.specs.Tables.{Table}
 use Rattle.openings.specs.References.{Reference, Refers, RefersAt}
 use Rattle.openings.specs.Opening.{Name, Meaning, Numbered, Known, ReadTo}
-use Rattle.openings.specs.Circles.{Names, Leads, here, on, OnCircle, FirstOnCircle}
+use Rattle.openings.specs.Circles.{Names, Leads, here, on, LeadsOn, OnCircle, FirstOnCircle}
 use Rattle.openings.specs.Opened.{names_of, fault_in, Opens, OpenFault, circle}
 use Rattle.openings.specs.Meeting.{Named}
 use Rattle.openings.specs.Gathering.{Gathering}
@@ -29,14 +29,14 @@ numbered_at : {gs : List Name} (k : ℕ) → k < length gs → Numbered gs (get_
 numbered_at k lt = record { below = lt; is = refl }
 
 module _ {M : Meaning} {list : List ℕ} {gs : List Name} {texts : List (List ℕ)} {links : Links} (all : Gathering M list (length gs) gs texts links) where
-  -- a group names those that it is linked to
-  link_names : (i j : ℕ) → Linked links i j → Names M (get_or gs i []) (get_or gs j [])
-  link_names i j l = let (g, n) = all.only i j l in subst (Names M (get_or gs i [])) (sym n.1.is) n.0
-
-  -- and leads to those that a chain of links leads to
-  chain_leads : {i j : ℕ} → Chain (Linked links) i j → Leads M (get_or gs i []) (get_or gs j [])
-  chain_leads (one {i = i} {j = j} l) = on (link_names i j l) here
-  chain_leads (more {i = i} {m = m} l c) = on (link_names i m l) (chain_leads c)
+  -- a chain of links goes from group to group
+  pub chain_leads : {i j : ℕ} → Chain (Linked links) i j → (i < length gs) × ((j < length gs) × LeadsOn M (get_or gs i []) (get_or gs j []))
+  chain_leads {i} {j} (one l) =
+      let (g, n) = all.only i j l in (omega (arith, l.0, all.rows), (n.1.below, record { by = g; names = n.0; leads = subst (Leads M g) (sym n.1.is) here }))
+  chain_leads {i} {j} (more {m = m} l c) =
+      let (g, n) = all.only i m l in
+      let (lt, rest) = chain_leads c in
+      let on-from : Leads M g (get_or gs j []) = subst (λ x. Leads M x (get_or gs j [])) n.1.is (on rest.1.names rest.1.leads) in (omega (arith, l.0, all.rows), (rest.0, record { by = g; names = n.0; leads = on-from }))
 
   -- a group is linked to those that it names
   names_link : {h m : Name} {i : ℕ} → Numbered gs h i → Names M h m → (j : ℕ) × (Numbered gs m j × Linked links i j)
@@ -80,7 +80,7 @@ module _ {M : Meaning} {list : List ℕ} {gs : List Name} {texts : List (List �
         let own : Leads M (get_or gs b.number []) (get_or gs home []) =
         ⊎_elim
         (λ e. subst (λ k. Leads M (get_or gs b.number []) (get_or gs k [])) e here)
-        (λ l. chain_leads ((closes b.number home).0 l))
+        (λ l. let on-from = (chain_leads ((closes b.number home).0 l)).1.1 in on on-from.names on-from.leads)
         b.back
         in
         subst (λ x. Leads M x (get_or gs home [])) b.numbered.is own

@@ -5,6 +5,7 @@ use Rattle.std.proofs.lemmas.List.{length_push}
 use Rattle.faults.specs.declared.kind.Kind.{Kind}
 use Rattle.openings.specs.References.{Reference}
 use Rattle.openings.specs.Opening.{Name, Meaning, Numbered, Known, Meets, again, new, MeetsAll, met, meet, Halts, surplus, lacking, later, ChecksFor, now_checked, later_checked, Distinct}
+use Rattle.openings.specs.Meeting.{Named}
 use Rattle.openings.proofs.Knowing.{push_keeps, push_known, push_source, push_distinct}
 
 module _ {M : Meaning} where
@@ -102,6 +103,6 @@ module _ {M : Meaning} where
       (known_checked ms k)
 
   -- a name that is checked for is referred to
-  pub checked_named : {gs : List Name} {rs : List Reference} {g : Name} → ChecksFor M gs rs g → (before after : List Reference) × (place : ℕ) × (rs ≡ before ++ (record { place = place; name = g } ∷ after))
-  checked_named (now_checked {r = r} {rs = rs} u lt) = ([], rs, r.place, refl)
-  checked_named (later_checked {r = r} m c) = let n = checked_named c in (r ∷ n.0, n.1, n.2, ap (λ x. r ∷ x) n.3)
+  pub checked_named : {gs : List Name} {rs : List Reference} {g : Name} → ChecksFor M gs rs g → Named rs g
+  checked_named (now_checked u lt) = inl refl
+  checked_named (later_checked m c) = inr (checked_named c)

@@ -13,21 +13,12 @@ use Rattle.openings.proofs.Turns.{read_distinct}
 use Rattle.openings.proofs.Circling.{named_known, names_across, leads_across}
 use Rattle.openings.proofs.TableTexts.{length_names, text_known}
 use Rattle.openings.proofs.Answering.{opens_own}
-use Rattle.openings.proofs.Leading.{leads_back}
+use Rattle.openings.proofs.Leading.{chain_leads, leads_back}
 
 module _ {M : Meaning} {list : List ℕ} {gs : List Name} {texts : List (List ℕ)} {links : Links} (all : Gathering M list (length gs) gs texts links) where
-  -- a chain of links goes from group to group
-  chain_leads : {i j : ℕ} → Chain (Linked links) i j → (i < length gs) × ((j < length gs) × LeadsOn M (get_or gs i []) (get_or gs j []))
-  chain_leads {i} {j} (one l) =
-      let (g, n) = all.only i j l in (omega (arith, l.0, all.rows), (n.1.below, record { by = g; names = n.0; leads = subst (Leads M g) (sym n.1.is) here }))
-  chain_leads {i} {j} (more {m = m} l c) =
-      let (g, n) = all.only i m l in
-      let (lt, rest) = chain_leads c in
-      let on-from : Leads M g (get_or gs j []) = subst (λ x. Leads M x (get_or gs j [])) n.1.is (on rest.1.names rest.1.leads) in (omega (arith, l.0, all.rows), (rest.0, record { by = g; names = n.0; leads = on-from }))
-
   module _ (leads : Links) (closes : Closes links leads) where
     linked_leads : (i j : ℕ) → Linked leads i j → (i < length gs) × ((j < length gs) × LeadsOn M (get_or gs i []) (get_or gs j []))
-    linked_leads i j l = chain_leads ((closes i j).0 l)
+    linked_leads i j l = chain_leads all ((closes i j).0 l)
 
     leads_linked : (i j : ℕ) → i < length gs → j < length gs → LeadsOn M (get_or gs i []) (get_or gs j []) → Linked leads i j
     leads_linked i j lt lt' l =
