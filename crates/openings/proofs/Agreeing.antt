@@ -1,9 +1,10 @@
 -- Two meanings that agree on the names that are looked up.
-use Rattle.std.proofs.Common.{◌≡◌, ℕ, List, ◌∷◌, is_some, refl, ap, ◌∙◌}
+use Rattle.std.proofs.Common.{◌≡◌, ℕ, List, ◌∷◌, is_some, ap, ◌∙◌}
 use Rattle.faults.specs.declared.kind.Kind.{Kind}
 use Rattle.lists.specs.Texts.{LawfulList}
 use Rattle.openings.specs.References.{Reference, Refers}
 use Rattle.openings.specs.Opening.{Name, Meaning, Known, Meets, again, new, MeetsAll, met, meet, Halts, surplus, lacking, later, ChecksFor, now_checked, later_checked, TextAt, the_list, the_group, ReadTo, start, turn, Alike}
+use Rattle.openings.proofs.Knowing.{numbered_at}
 use Rattle.openings.proofs.Turns.{read_checked}
 
 -- they agree on the names that meeting these references looks up
@@ -35,7 +36,7 @@ module _ {M M' : Meaning} {list : List ℕ} (alike : Alike M M' list) where
   -- and so has every number
   pub text_alike : {gs : List Name} {n i : ℕ} {text : List ℕ} → ReadTo M list n gs → TextAt M list gs i text → TextAt M' list gs i text
   text_alike r (the_list z e) = the_list z e
-  text_alike r (the_group k is lt has) = the_group k is lt (known_alike r _ (k, record { below = lt; is = refl }) ∙ has)
+  text_alike r (the_group k is lt has) = the_group k is lt (known_alike r _ (k, numbered_at k lt) ∙ has)
 
   -- names that a turn checks for have the same text
   pub turn_alike : {gs : List Name} {i : ℕ} {text : List ℕ} {rs : List Reference} → ReadTo M list i gs → TextAt M list gs i text → LawfulList text → Refers text rs → Agrees M M' gs rs

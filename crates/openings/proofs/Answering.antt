@@ -13,7 +13,7 @@ use Rattle.openings.proofs.Stopping.{Stop, stopped, stop_turns, stop_one, stop_c
 use Rattle.openings.proofs.TableTexts.{length_names, names_table, text_known, texts_across}
 
 -- an opening that succeeds has read all texts
-opens_all : {M : Meaning} {list : List ℕ} {t : Table} → Opens M list t → ReadTo M list (length (names_of t) + 1) (names_of t)
+pub opens_all : {M : Meaning} {list : List ℕ} {t : Table} → Opens M list t → ReadTo M list (length (names_of t) + 1) (names_of t)
 opens_all {M} {list} {t} o = subst (λ n. ReadTo M list (n + 1) (names_of t)) (sym (length_names t)) o.read
 
 -- an opening has one answer at most

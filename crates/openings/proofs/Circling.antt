@@ -1,8 +1,9 @@
 -- What leads where, when texts have been read.
 use Rattle.std.proofs.Common.{◌≡◌, ℕ, ◌+◌, List, [], length, get_or, refl, ap, ◌∙◌, subst, ⊎_elim, arith}
-use Rattle.openings.specs.References.{Reference, Refers, RefersAt}
-use Rattle.openings.specs.Opening.{Name, Meaning, Known, ChecksFor, TextAt, the_list, the_group, ReadTo, start, turn}
+use Rattle.openings.specs.References.{RefersAt}
+use Rattle.openings.specs.Opening.{Name, Meaning, Known, TextAt, the_list, the_group, ReadTo, start, turn}
 use Rattle.openings.specs.Circles.{Names, Leads, here, on, ListLeads, OnCircle}
+use Rattle.openings.proofs.Knowing.{numbered_at}
 use Rattle.openings.proofs.Meeting.{known_checked, checked_named}
 use Rattle.openings.proofs.Collecting.{named_refers}
 use Rattle.openings.proofs.Turns.{references_known}
@@ -32,7 +33,7 @@ module _ {M : Meaning} {list : List ℕ} where
   named_led : {gs : List Name} {i place : ℕ} {text : List ℕ} {g : Name} → ((h : Name) → Known gs h → ListLeads M list h) → TextAt M list gs i text → RefersAt text place g → ListLeads M list g
   named_led {place = place} {g = g} led (the_list z e) f = record { place = place; first = g; refers = subst (λ t. RefersAt t place g) e f; leads = here }
   named_led {gs} {place = place} led (the_group k is lt has) f =
-      let l = led (get_or gs k []) (k, record { below = lt; is = refl }) in
+      let l = led (get_or gs k []) (k, numbered_at k lt) in
       record { place = l.place; first = l.first; refers = l.refers; leads = leads_on l.leads (record { text = _; has = has; place = place; refers = f }) }
 
   -- the list leads to every group that is known
@@ -54,6 +55,6 @@ module _ {M M' : Meaning} {list : List ℕ} {gs : List Name} (all : ReadTo M lis
   pub circle_across : {i place : ℕ} → OnCircle M gs i place → OnCircle M' gs i place
   circle_across {place = place} c =
       let g = get_or gs c.number [] in
-      let k : Known gs g = (c.number, record { below = c.below; is = refl }) in
+      let k : Known gs g = (c.number, numbered_at c.number c.below) in
       let n : Names M g c.named = record { text = c.text; has = c.has; place = place; refers = c.refers } in
       record { number = c.number; is = c.is; below = c.below; text = c.text; has = agree g k ∙ c.has; named = c.named; refers = c.refers; back = leads_across (named_known all k n) c.back }

@@ -15,7 +15,7 @@ use Rattle.openings.specs.Circles.{Names}
 use Rattle.openings.specs.Meeting.{Named, AllMet, HaltsIn}
 use Rattle.openings.specs.Gathering.{Gathering}
 use Rattle.openings.proofs.Meeting.{meets_keeps}
-use Rattle.openings.proofs.Knowing.{push_source}
+use Rattle.openings.proofs.Knowing.{numbered_at, push_source}
 use Rattle.openings.proofs.Referring.{refers_one}
 
 -- a group that is named has a reference somewhere among those before and after it
@@ -37,7 +37,7 @@ refers_named {g = g} refers at = subst (λ rs. Named rs g) (refers_one at.refers
 
 -- groups that are known keep their places
 pub kept_at : {M : Meaning} {gs gs' : List Name} {rs : List Reference} (i : ℕ) → MeetsAll M gs rs gs' → i < length gs → get_or gs' i [] ≡ get_or gs i []
-kept_at i m lt = (meets_keeps m (record { below = lt; is = refl })).is
+kept_at i m lt = (meets_keeps m (numbered_at i lt)).is
 
 -- what a group's text names, where the group has another number or name
 names_of : {M : Meaning} {f g h : Name} → f ≡ g → Names M g h → Names M f h
@@ -50,7 +50,7 @@ module _ {M : Meaning} {list : List ℕ} {k : ℕ} {gs gs' : List Name} {texts :
       let own = kept_at k all.met here in
       record {
         read = turn refl g.read (the_group k refl here has) lawful refers all.met;
-        within = omega (arith, (meets_keeps all.met (record { below = here; is = refl })).below);
+        within = omega (arith, (meets_keeps all.met (numbered_at k here)).below);
         texts_held = λ i lt.
             ⊎_elim
             (λ old.
@@ -127,7 +127,7 @@ module _ {M : Meaning} {list : List ℕ} (lawful : LawfulList list) where
 module _ {M : Meaning} {list : List ℕ} {k : ℕ} {gs : List Name} {texts : List (List ℕ)} {links : Links} (g : Gathering M list k gs texts links) (here : k < length gs) where
   -- the group whose turn it is has a text
   pub has_text : (text : List ℕ) × (M (get_or gs k []) ≡ Some text)
-  has_text = some_is (M (get_or gs k [])) (read_have g.read (get_or gs k []) (k, record { below = here; is = refl }))
+  has_text = some_is (M (get_or gs k [])) (read_have g.read (get_or gs k []) (k, numbered_at k here))
 
   pub text_fault : {text : List ℕ} {f : Fault} → M (get_or gs k []) ≡ Some text → ListFault text f → OpenFault M list (in_text (k + 1) f)
   text_fault has fault = unlawful g.read (the_group k refl here has) fault

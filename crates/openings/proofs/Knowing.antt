@@ -1,9 +1,13 @@
 -- Names among others: what becomes of them when one more is put at the end.
-use Rattle.std.proofs.Common.{◌≡◌, ℕ, zero, suc, ◌⊎◌, List, [], ◌∷◌, ◌++◌, length, sym, ◌∙◌, inl, inr, ⊎_elim, arith}
+use Rattle.std.proofs.Common.{◌≡◌, ℕ, zero, suc, ◌⊎◌, List, [], ◌∷◌, ◌++◌, length, sym, ◌∙◌, inl, inr, ⊎_elim, arith, ◌<◌, get_or, refl}
 use Rattle.std.proofs.lemmas.List.{length_push, get_or_push, get_or_append_left}
 use Rattle.std.proofs.lemmas.Bool.{cases_lt}
 use Rattle.std.proofs.lemmas.Grind.{common_steps}
 use Rattle.openings.specs.Opening.{Name, Numbered, Known, Distinct}
+
+-- the name at a number has that number
+pub numbered_at : {gs : List Name} (k : ℕ) → k < length gs → Numbered gs (get_or gs k []) k
+numbered_at k lt = record { below = lt; is = refl }
 
 -- a name is known that is known among all but the first
 pub known_more : {gs : List Name} {g h : Name} → Known gs g → Known (h ∷ gs) g

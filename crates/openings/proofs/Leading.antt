@@ -13,6 +13,7 @@ use Rattle.openings.specs.Opened.{names_of, fault_in, Opens, OpenFault, circle}
 use Rattle.openings.specs.Meeting.{Named}
 use Rattle.openings.specs.Gathering.{Gathering}
 use Rattle.openings.specs.Backing.{Closes, Back, FirstBack}
+use Rattle.openings.proofs.Knowing.{numbered_at}
 use Rattle.openings.proofs.Collecting.{refers_named}
 use Rattle.openings.proofs.Turns.{read_distinct}
 use Rattle.openings.proofs.Circling.{named_known}
@@ -23,10 +24,6 @@ use Rattle.openings.proofs.Rising.{refers_split}
 step_chain : {Step : ℕ → ℕ → Type 0} {i m j : ℕ} → Step i m → (m ≡ j) ⊎ Chain Step m j → Chain Step i j
 step_chain {Step} {i} s (inl e) = one (subst (Step i) e s)
 step_chain s (inr c) = more s c
-
--- the name at a number has that number
-numbered_at : {gs : List Name} (k : ℕ) → k < length gs → Numbered gs (get_or gs k []) k
-numbered_at k lt = record { below = lt; is = refl }
 
 module _ {M : Meaning} {list : List ℕ} {gs : List Name} {texts : List (List ℕ)} {links : Links} (all : Gathering M list (length gs) gs texts links) where
   -- a chain of links goes from group to group

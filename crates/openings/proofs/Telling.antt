@@ -1,10 +1,10 @@
 -- Closed links tell which group leads to which.
-use Rattle.std.proofs.Common.{◌≡◌, ℕ, ◌+◌, ◌<◌, List, [], length, get_or, sym, refl, ap, ◌∙◌, subst, ⊎_elim, arith}
+use Rattle.std.proofs.Common.{◌≡◌, ℕ, ◌<◌, List, [], length, get_or, sym, refl, ap, ◌∙◌, subst, ⊎_elim, arith}
 use Rattle.links.specs.declared.links.Links.{Links}
-use Rattle.links.specs.Links.{Linked, Chain, one, more}
+use Rattle.links.specs.Links.{Linked, one, more}
 use Rattle.books.specs.Tables.{Table, text_of}
-use Rattle.openings.specs.Opening.{Name, Meaning, Known, ReadTo}
-use Rattle.openings.specs.Circles.{Leads, here, on, LeadsOn}
+use Rattle.openings.specs.Opening.{Name, Meaning, Known}
+use Rattle.openings.specs.Circles.{LeadsOn}
 use Rattle.openings.specs.Opened.{names_of, Opens}
 use Rattle.openings.specs.Gathering.{Gathering}
 use Rattle.openings.specs.Backing.{Closes}
@@ -12,7 +12,7 @@ use Rattle.openings.specs.Whole.{Tells}
 use Rattle.openings.proofs.Turns.{read_distinct}
 use Rattle.openings.proofs.Circling.{named_known, names_across, leads_across}
 use Rattle.openings.proofs.TableTexts.{length_names, text_known}
-use Rattle.openings.proofs.Answering.{opens_own}
+use Rattle.openings.proofs.Answering.{opens_all, opens_own}
 use Rattle.openings.proofs.Leading.{chain_leads, leads_back}
 
 module _ {M : Meaning} {list : List ℕ} {gs : List Name} {texts : List (List ℕ)} {links : Links} (all : Gathering M list (length gs) gs texts links) where
@@ -36,8 +36,8 @@ module _ {M : Meaning} {list : List ℕ} {gs : List Name} {texts : List (List �
         let size : length table ≡ length gs = sym (length_names table) ∙ ap length names in
         let own = opens_own M list table opens in
         let agree : (g : Name) → Known (names_of table) g → text_of table g ≡ M g = λ g k. text_known M table g opens.texts k in
-        let all-names : ReadTo M list (length (names_of table) + 1) (names_of table) = subst (λ n. ReadTo M list (n + 1) (names_of table)) (sym (length_names table)) opens.read in
-        let own-names : ReadTo (text_of table) list (length (names_of table) + 1) (names_of table) = subst (λ n. ReadTo (text_of table) list (n + 1) (names_of table)) (sym (length_names table)) own.read in
+        let all-names = opens_all opens in
+        let own-names = opens_all own in
         let known : (i : ℕ) → i < length table → Known (names_of table) (get_or (names_of table) i []) = λ i lt. (i, record { below = omega (arith, length_names table); is = refl }) in
         λ i j. (
           λ l.

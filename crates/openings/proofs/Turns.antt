@@ -4,6 +4,7 @@ use Rattle.std.proofs.lemmas.Bool.{cases_lt}
 use Rattle.lists.specs.Texts.{LawfulList}
 use Rattle.openings.specs.References.{Reference, Refers, RefersAt}
 use Rattle.openings.specs.Opening.{Name, Meaning, Numbered, Known, MeetsAll, TextAt, the_list, the_group, ReadTo, start, turn, Checks, Distinct}
+use Rattle.openings.proofs.Knowing.{numbered_at}
 use Rattle.openings.proofs.Referring.{refers_one}
 use Rattle.openings.proofs.Meeting.{meets_all_one, meets_keeps, meets_distinct, meets_few, names_known, known_checked, checked_known}
 
@@ -49,7 +50,7 @@ module _ {M : Meaning} {list : List ℕ} where
   -- it stays the same while groups keep their numbers
   pub text_keeps : {gs hs : List Name} {i : ℕ} {text : List ℕ} → Keeps gs hs → TextAt M list gs i text → TextAt M list hs i text
   text_keeps keep (the_list z e) = the_list z e
-  text_keeps keep (the_group k is lt has) = let n = keep _ k (record { below = lt; is = refl }) in the_group k is n.below (ap M n.is ∙ has)
+  text_keeps keep (the_group k is lt has) = let n = keep _ k (numbered_at k lt) in the_group k is n.below (ap M n.is ∙ has)
 
   -- it has one row of references
   pub references_one : {gs : List Name} {i : ℕ} {s t : List ℕ} {rs ss : List Reference} → TextAt M list gs i s → Refers s rs → TextAt M list gs i t → Refers t ss → rs ≡ ss
