@@ -17,6 +17,7 @@ use super::step::Step;
 use lists::list::AccessList;
 use lists::token::Token;
 use lists::walk::ListTokens;
+use name_parts::Mark;
 use positions::Positions;
 use runs::Runs;
 
@@ -42,9 +43,9 @@ impl Judge<'_, '_> {
     {
         match token {
             Token::Word(bytes) => Step::Part(self.parts.places_of(bytes, self.everywhere())),
-            Token::Dot => Step::Part(self.parts.dots()),
-            Token::At => Step::Part(self.parts.ats()),
-            Token::Plus => Step::Part(self.parts.pluses()),
+            Token::Dot => Step::Part(self.parts.marks(Mark::Dot)),
+            Token::At => Step::Part(self.parts.marks(Mark::At)),
+            Token::Plus => Step::Part(self.parts.marks(Mark::Plus)),
             Token::Any => Step::Runs(*self.parts.partial_names()),
             _ => Step::Part(Positions::empty()),
         }

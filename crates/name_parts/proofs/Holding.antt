@@ -1,6 +1,6 @@
 -- What is held of a name holds of its row of parts.
 use Rattle.std.proofs.Common.{◌≡◌, ℕ, ◌+◌, ◌<◌, ◌≤◌, min, ◌⊎◌, ◌↔◌, List, length, get_or, sym, ◌∙◌, subst, arith}
-use Rattle.names.specs.Names.{Part, word, dot, at, plus, IsName, LawfulName}
+use Rattle.names.specs.Names.{Part, word, dot, IsName, LawfulName}
 use Rattle.names.proofs.Places.{alternates}
 use Rattle.positions.specs.Places.{Has}
 use Rattle.positions.proofs.Digits.{has_or_not}
@@ -55,14 +55,8 @@ module _ (text : List ℕ) (o : Outline) (mere : ∥ OutlineOf text o ∥₁) wh
     pub held_words : (i : ℕ) → Has o.words.digits i ↔ WordAt ps i
     held_words = held (WordAt ps) o.words.digits (λ x. x.words) (word_or_not ps) (λ i a. a.1.inside)
 
-    pub held_dots : (i : ℕ) → Has o.dots.digits i ↔ PartAt ps dot i
-    held_dots = held (PartAt ps dot) o.dots.digits (λ x. x.dots) (part_or_not ps dot) (λ i a. a.inside)
-
-    pub held_ats : (i : ℕ) → Has o.ats.digits i ↔ PartAt ps at i
-    held_ats = held (PartAt ps at) o.ats.digits (λ x. x.ats) (part_or_not ps at) (λ i a. a.inside)
-
-    pub held_pluses : (i : ℕ) → Has o.pluses.digits i ↔ PartAt ps plus i
-    held_pluses = held (PartAt ps plus) o.pluses.digits (λ x. x.pluses) (part_or_not ps plus) (λ i a. a.inside)
+    pub held_mark : (p : Part) (d : ℕ) → (Outlined ps o → Sees (PartAt ps p) o.count d) → (i : ℕ) → Has d i ↔ PartAt ps p i
+    held_mark p d sees = held (PartAt ps p) d sees (part_or_not ps p) (λ i a. a.inside)
 
   module _ (lawful : ∥ LawfulName text ∥₁) where
     -- a word is at one of the places

@@ -3,3 +3,4 @@ pub mod Outlines
 pub mod Dotted
 pub mod Tables
 pub mod Texts
+pub mod Marks

@@ -4,7 +4,9 @@
 mod bytes;
 mod dotted;
 mod lookup;
+mod mark;
 mod outline;
 mod table;
 
+pub use mark::Mark;
 pub use table::NameParts;

@@ -1,11 +1,13 @@
 //! What stands at which place of a name.
 ghost use Rattle.std.specs.Prelude.{◌≡◌};
 ghost use Rattle.texts.specs.Shown.{shown};
-ghost use Rattle.names.specs.Names.{dot, at, plus, PartsOf};
+ghost use Rattle.names.specs.Names.{PartsOf};
 ghost use Rattle.name_parts.specs.Tables.{PlacesOf, WordPlaces, PartialNames};
+ghost use Rattle.name_parts.specs.Marks.{part_of_mark};
 ghost use Rattle.name_parts.specs.Texts.{text_of};
 
 use super::dotted::dotted_words;
+use super::mark::Mark;
 use super::outline::Outline;
 use super::table::NameParts;
 use faults::lawful::LawfulText;
@@ -33,25 +35,15 @@ impl<'a> NameParts<'a> {
         self.outline.count
     }
 
-    /// The places of the dots.
-    pub fn dots(&self) -> Positions
-        ensures { PlacesOf (text_of self.now) dot result.digits }
+    /// The places of a mark.
+    pub fn marks(&self, mark: Mark) -> Positions
+        ensures { PlacesOf (text_of self.now) (part_of_mark mark) result.digits }
     {
-        self.outline.dots
-    }
-
-    /// The places of the at signs.
-    pub fn ats(&self) -> Positions
-        ensures { PlacesOf (text_of self.now) at result.digits }
-    {
-        self.outline.ats
-    }
-
-    /// The places of the plus signs.
-    pub fn pluses(&self) -> Positions
-        ensures { PlacesOf (text_of self.now) plus result.digits }
-    {
-        self.outline.pluses
+        match mark {
+            Mark::Dot => self.outline.dots,
+            Mark::At => self.outline.ats,
+            Mark::Plus => self.outline.pluses,
+        }
     }
 
     /// Those of some places that have this word.

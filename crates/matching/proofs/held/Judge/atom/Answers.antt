@@ -22,13 +22,13 @@ returns-in-Word c ps is a e =
     (word_means ps w c.places_of.result c.everywhere.result is.few (c.everywhere.ensures ps is) (c.places_of.ensures ps is))
 
 pub returns-in-Dot : goal.returns-in-Dot
-returns-in-Dot c ps is a e = subst (λ b. StepMeans ps (AtomDerives exact b) (Place c.dots.result)) (the_atom _ _ a Trees.dot c.in-Dot.is refl e) (part_means ps dot c.dots.result is.few (c.dots.ensures ps is) (λ i j. span_atom_dot))
+returns-in-Dot c ps is a e = subst (λ b. StepMeans ps (AtomDerives exact b) (Place c.marks.result)) (the_atom _ _ a Trees.dot c.in-Dot.is refl e) (part_means ps dot c.marks.result is.few (c.marks.ensures ps is) (λ i j. span_atom_dot))
 
 pub returns-in-At : goal.returns-in-At
-returns-in-At c ps is a e = subst (λ b. StepMeans ps (AtomDerives exact b) (Place c.ats.result)) (the_atom _ _ a Trees.at c.in-At.is refl e) (part_means ps at c.ats.result is.few (c.ats.ensures ps is) (λ i j. span_atom_at))
+returns-in-At c ps is a e = subst (λ b. StepMeans ps (AtomDerives exact b) (Place c.marks-in-At.result)) (the_atom _ _ a Trees.at c.in-At.is refl e) (part_means ps at c.marks-in-At.result is.few (c.marks-in-At.ensures ps is) (λ i j. span_atom_at))
 
 pub returns-in-Plus : goal.returns-in-Plus
-returns-in-Plus c ps is a e = subst (λ b. StepMeans ps (AtomDerives exact b) (Place c.pluses.result)) (the_atom _ _ a Trees.plus c.in-Plus.is refl e) (part_means ps plus c.pluses.result is.few (c.pluses.ensures ps is) (λ i j. span_atom_plus))
+returns-in-Plus c ps is a e = subst (λ b. StepMeans ps (AtomDerives exact b) (Place c.marks-in-Plus.result)) (the_atom _ _ a Trees.plus c.in-Plus.is refl e) (part_means ps plus c.marks-in-Plus.result is.few (c.marks-in-Plus.ensures ps is) (λ i j. span_atom_plus))
 
 pub returns-in-Any : goal.returns-in-Any
 returns-in-Any c ps is a e = subst (λ b. StepMeans ps (AtomDerives exact b) (Each c.partial_names.result.now)) (the_atom _ _ a Trees.any c.in-Any.is refl e) (any_means ps c.partial_names.result.now (c.partial_names.ensures ps is).counted (c.partial_names.ensures ps is).ends)

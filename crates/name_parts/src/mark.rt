@@ -1,0 +1,9 @@
+//! The marks between the words of a name.
+
+/// A mark of a name.
+#[derive(Clone, Copy)]
+pub enum Mark {
+    Dot,
+    At,
+    Plus,
+}
