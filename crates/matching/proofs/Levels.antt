@@ -5,8 +5,9 @@ use Rattle.names.specs.Names.{Part}
 use Rattle.lists.specs.Trees.{Item, starred, Seq, one, then, Alts, only, or, Tree, empty, list}
 use Rattle.lists.proofs.Build.{Level, fresh, barred, full, put, star_seq, star_alts}
 use Rattle.runs.specs.declared.relation.Runs.{Runs}
-use Rattle.runs.specs.Relations.{Identity, Composed, Reach, done, further}
+use Rattle.runs.specs.Relations.{Identity, Composed}
 use Rattle.runs.specs.Runs.{Ends}
+use Rattle.runs.proofs.Reaching.{reach_map}
 use Rattle.name_parts.specs.Slices.{Spans}
 use Rattle.derivations.specs.Derives.{ItemDerives, SeqDerives, AltsDerives, TreeDerives, exact}
 use Rattle.matching.specs.declared.step.Step.{Step}
@@ -15,11 +16,6 @@ use Rattle.matching.specs.Steps.{StepEnds, Repeats}
 use Rattle.matching.specs.Readings.{Begins, Joined, Pushed, LastRepeats, Repeated, Ended, Finished, Barred}
 use Rattle.matching.specs.Judging.{Means, StepMeans}
 use Rattle.matching.proofs.Spanning.{span_star, span_one, span_then, span_only, span_or, span_list, span_empty}
-
--- a relation any number of times, within another one
-pub reach_map : {R S : ℕ → ℕ → Type 0} → ((i j : ℕ) → R i j → S i j) → {i j : ℕ} → Reach R i j → Reach S i j
-reach_map f (done e) = done e
-reach_map f (further m a r) = further m (f _ m a) (reach_map f r)
 
 -- the last item of a sequence
 abbrev pub final : Seq → Item
@@ -58,9 +54,7 @@ module _ (ps : List Part) (Group : List ℕ → Tree → Type 0) where
 
   -- the reading holds what has been read
   pub record Holds (starts : ℕ) (reading : Reading) (u : Level) : Type 0 where
-    pub first : reading.starts ≡ starts
-    pub done_counted : reading.done.count ≡ starts
-    pub seq_counted : reading.seq.count ≡ starts
+    pub first : reading.starts.count ≡ starts
     pub past : (i j : ℕ) → Ends reading.done i j ↔ ((i < starts) × Past u i j)
     pub going : (i j : ℕ) → Ends reading.seq i j ↔ ((i < starts) × Going u i j)
     pub last : Last u reading.last
@@ -86,8 +80,6 @@ module _ (ps : List Part) (Group : List ℕ → Tree → Type 0) where
   pub holds_none : (n : ℕ) (reading : Reading) → Begins n reading → Holds n reading fresh
   holds_none n reading b = record {
     first = b.first;
-    done_counted = b.done_counted;
-    seq_counted = b.seq_counted;
     past = λ i j. (λ e. absurd (b.done i j e), λ h. absurd h.1);
     going = b.seq;
     last = b.last;
@@ -104,9 +96,7 @@ module _ (ps : List Part) (Group : List ℕ → Tree → Type 0) where
     -- what the next level holds, from what it adds to the one before
     put_holds : (u v : Level) → Holds n before u → ((i j : ℕ) → Past u i j ≡ Past v i j) → ((i j : ℕ) → Ends after.seq i j ↔ ((i < n) × Going v i j)) → Last v after.last → Holds n after v
     put_holds u v h same going last = record {
-      first = p.first ∙ h.first;
-      done_counted = ap (λ d. d.count) p.done ∙ h.done_counted;
-      seq_counted = p.seq_counted ∙ h.seq_counted;
+      first = ap (λ s. s.count) p.first ∙ h.first;
       past = λ i j. subst (λ D. Ends after.done i j ↔ ((i < n) × D)) (same i j) (subst (λ d. Ends d i j ↔ ((i < n) × Past u i j)) (sym p.done) (h.past i j));
       going = going;
       last = last;
@@ -142,9 +132,7 @@ module _ (ps : List Part) (Group : List ℕ → Tree → Type 0) where
   module _ (n : ℕ) (before after : Reading) (r : Repeated before (length ps + 1) after) where
     star_holds : (u v : Level) → Holds n before u → ((i j : ℕ) → Past u i j ≡ Past v i j) → ((i j : ℕ) → Going u i j ≡ Going v i j) → Last v after.last → Holds n after v
     star_holds u v h past going last = record {
-      first = r.first ∙ h.first;
-      done_counted = ap (λ d. d.count) r.done ∙ h.done_counted;
-      seq_counted = ap (λ d. d.count) r.seq ∙ h.seq_counted;
+      first = ap (λ s. s.count) r.first ∙ h.first;
       past = λ i j. subst (λ D. Ends after.done i j ↔ ((i < n) × D)) (past i j) (subst (λ d. Ends d i j ↔ ((i < n) × Past u i j)) (sym r.done) (h.past i j));
       going = λ i j. subst (λ D. Ends after.seq i j ↔ ((i < n) × D)) (going i j) (subst (λ d. Ends d i j ↔ ((i < n) × Going u i j)) (sym r.seq) (h.going i j));
       last = last;
@@ -163,12 +151,12 @@ module _ (ps : List Part) (Group : List ℕ → Tree → Type 0) where
     ended_full (only s) h i j =
         let last = ended_final s h.going h.last i j in (
           λ e. ⊎_elim (λ d. absurd ((h.past i j).0 d).1) (λ t. let (lt, sp) = last.0 t.1 in (lt, span_only.1 sp)) ((f.ends i j).0 e),
-          λ t. (f.ends i j).1 (inr (omega (arith, t.0, h.done_counted), last.1 (t.0, span_only.0 t.1))),
+          λ t. (f.ends i j).1 (inr (omega (arith, t.0, h.first), last.1 (t.0, span_only.0 t.1))),
         )
     ended_full (or l s) h i j =
         let last = ended_final s h.going h.last i j in (
           λ e. ⊎_elim (λ d. let (lt, sp) = (h.past i j).0 d in (lt, span_or.1 (inl sp))) (λ t. let (lt, sp) = last.0 t.1 in (lt, span_or.1 (inr sp))) ((f.ends i j).0 e),
-          λ t. (f.ends i j).1 (⊎_elim (λ sp. inl ((h.past i j).1 (t.0, sp))) (λ sp. inr (omega (arith, t.0, h.done_counted), last.1 (t.0, sp))) (span_or.0 t.1)),
+          λ t. (f.ends i j).1 (⊎_elim (λ sp. inl ((h.past i j).1 (t.0, sp))) (λ sp. inr (omega (arith, t.0, h.first), last.1 (t.0, sp))) (span_or.0 t.1)),
         )
 
     -- nothing has been read, and no run is done
@@ -178,19 +166,17 @@ module _ (ps : List Part) (Group : List ℕ → Tree → Type 0) where
     -- all has been read
     pub holds_list : (a : Alts) → Holds n reading (full a) → Means ps (TreeDerives exact Group (list a)) n runs
     holds_list a h = record {
-      counted = f.counted ∙ h.done_counted;
+      counted = f.counted ∙ h.first;
       ends = λ i j. let ends = ended_full a h i j in (λ e. let (lt, sp) = ends.0 e in (lt, span_list.1 sp), λ t. ends.1 (t.0, span_list.0 t.1));
     }
 
     pub holds_empty : Holds n reading fresh → Means ps (TreeDerives exact Group empty) n runs
-    holds_empty h = record { counted = f.counted ∙ h.done_counted; ends = λ i j. (λ e. absurd (ended_fresh h i j e), λ t. absurd (span_empty t.1)) }
+    holds_empty h = record { counted = f.counted ∙ h.first; ends = λ i j. (λ e. absurd (ended_fresh h i j e), λ t. absurd (span_empty t.1)) }
 
   -- a bar after a sequence
   pub holds_bar : (n : ℕ) (before after : Reading) (a : Alts) → Barred before after → Holds n before (full a) → Holds n after (barred a)
   holds_bar n before after a b h = record {
-    first = b.first ∙ h.first;
-    done_counted = b.done.counted ∙ h.done_counted;
-    seq_counted = b.seq_counted ∙ h.first;
+    first = ap (λ s. s.count) b.first ∙ h.first;
     past = ended_full n before after.done b.done a h;
     going = subst (λ k. (i j : ℕ) → Ends after.seq i j ↔ Identity k i j) h.first b.seq;
     last = b.last;

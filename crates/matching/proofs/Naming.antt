@@ -3,16 +3,15 @@ use Rattle.std.proofs.Common.{ℕ, ◌+◌, List, length, arith}
 use Rattle.runs.specs.declared.relation.Runs.{Runs}
 use Rattle.names.specs.Names.{Part}
 use Rattle.lists.specs.Trees.{named}
-use Rattle.books.specs.Tables.{Table}
 use Rattle.derivations.specs.Derives.{ItemDerives, exact, GroupOf}
 use Rattle.matching.specs.declared.held.Judge.{Judge}
 use Rattle.matching.specs.declared.step.Step.TheVariants.{Runs as Each}
-use Rattle.matching.specs.Judging.{Means, StepMeans, Derived, GroupReady}
+use Rattle.matching.specs.Judging.{table_of, Means, StepMeans, Derived, GroupReady}
 use Rattle.matching.proofs.Spanning.{span_named}
 
 -- the runs of the tree that a group stands for
-pub group_means : (judge : Judge) (ps : List Part) (table : Table) (g : List ℕ) (ready : GroupReady judge ps table g) (runs : Runs) → Means ps (Derived table ready.tree) (length ps + 1) runs → StepMeans ps (ItemDerives exact (GroupOf table) (named g)) (Each runs)
-group_means judge ps table g ready runs means = record {
+pub group_means : (judge : Judge) (ps : List Part) (g : List ℕ) (ready : GroupReady judge ps g) (runs : Runs) → Means ps (Derived (table_of judge) ready.tree) (length ps + 1) runs → StepMeans ps (ItemDerives exact (GroupOf (table_of judge)) (named g)) (Each runs)
+group_means judge ps g ready runs means = record {
   counted = means.counted;
   ends = λ i j. (
     λ e. (span_named ready.stands ready.one).1 ((means.ends i j).0 e).1,

@@ -11,7 +11,6 @@ use Rattle.lists.specs.Trees
 use Rattle.lists.specs.Trees.{Atom, Sign, atom, named, close_bracket, Tree, list}
 use Rattle.lists.specs.Texts.{tree_signs}
 use Rattle.lists.specs.Placed.{Placed, none, signs_of, Walks}
-use Rattle.books.specs.Tables.{Table}
 use Rattle.runs.specs.declared.relation.Runs.{Runs}
 use Rattle.name_parts.specs.Texts.{text_of}
 use Rattle.derivations.specs.Derives.{AtomDerives, ItemDerives, exact, GroupOf}
@@ -20,7 +19,7 @@ use Rattle.matching.specs.declared.step.Step.{Step}
 use Rattle.matching.specs.declared.step.Step.TheVariants.{Runs as Each}
 use Rattle.matching.specs.declared.reading.Reading.{Reading}
 use Rattle.matching.specs.Readings.{Begins, Pushed, Repeated, Finished, Barred}
-use Rattle.matching.specs.Judging.{StepMeans, GroupReady, TreeReady, Closes, Judged, Judges}
+use Rattle.matching.specs.Judging.{table_of, StepMeans, GroupReady, TreeReady, Closes, Judged, Judges}
 use Rattle.matching.proofs.Course.{Course, course_start, course_atom, course_group, course_star, course_bar, course_inside, course_bracket, course_close, course_end}
 
 -- a token that is no bracket, star, bar or group is an atom
@@ -56,11 +55,11 @@ module _ (judge : Judge) (text : List ℕ) (start starts : ℕ) where
   -- whatever the name's parts, the table, the tree and what follows it are: the course of the judgement from the start
   abbrev pub Courses : ℕ → Reading → Type 0
   Courses at reading =
-      (ps : List Part) (table : Table) → IsName (text_of judge.parts) ps → (tree : Tree) → TreeReady judge ps table tree → (tail : List Sign) (closes : Closes tail) (qs : List (ℕ × Sign)) → Placed text start qs → signs_of qs ≡ tree_signs tree ++ tail → Course judge ps table tree tail closes text starts at reading
+      (ps : List Part) → IsName (text_of judge.parts) ps → (tree : Tree) → TreeReady judge ps tree → (tail : List Sign) (closes : Closes tail) (qs : List (ℕ × Sign)) → Placed text start qs → signs_of qs ≡ tree_signs tree ++ tail → Course judge ps tree tail closes text starts at reading
 
   -- nothing has been read
   pub courses_start : (reading : Reading) → Begins starts reading → Courses start reading
-  courses_start reading b ps table is tree ready tail closes qs placed these = course_start judge ps table tree tail closes text starts start reading ready qs placed these b
+  courses_start reading b ps is tree ready tail closes qs placed these = course_start judge ps tree tail closes text starts start reading ready qs placed these b
 
   module _ (at : ℕ) (reading : Reading) (before : Courses at reading) where
     -- a token has been passed
@@ -70,46 +69,46 @@ module _ (judge : Judge) (text : List ℕ) (start starts : ℕ) where
       tokens_are {rest = rest} e f = e ∙ ap (λ s. (lexeme.place, s) ∷ rest) f
 
       pub courses_atom : (a : Atom) (step : Step) (reading' : Reading) → sign lexeme.token ≡ atom a → ((ps : List Part) → IsName (text_of judge.parts) ps → StepMeans ps (AtomDerives exact a) step) → Pushed reading step reading' → Courses at' reading'
-      courses_atom a step reading' f means p ps table is tree ready tail closes qs placed these =
-          let course = before ps table is tree ready tail closes qs placed these in
+      courses_atom a step reading' f means p ps is tree ready tail closes qs placed these =
+          let course = before ps is tree ready tail closes qs placed these in
           let (rest, (e, there)) = walks.token course.rest course.placed in
-          course_atom judge ps table tree tail closes text starts at reading course lexeme.place rest at' there reading' a step (tokens_are e f) (means ps is) p
+          course_atom judge ps tree tail closes text starts at reading course lexeme.place rest at' there reading' a step (tokens_are e f) (means ps is) p
 
-      pub courses_group : (g : List ℕ) (step : Step) (reading' : Reading) → sign lexeme.token ≡ Trees.group g → ((ps : List Part) (table : Table) → GroupReady judge ps table g → StepMeans ps (ItemDerives exact (GroupOf table) (named g)) step) → Pushed reading step reading' → Courses at' reading'
-      courses_group g step reading' f means p ps table is tree ready tail closes qs placed these =
-          let course = before ps table is tree ready tail closes qs placed these in
+      pub courses_group : (g : List ℕ) (step : Step) (reading' : Reading) → sign lexeme.token ≡ Trees.group g → ((ps : List Part) → GroupReady judge ps g → StepMeans ps (ItemDerives exact (GroupOf (table_of judge)) (named g)) step) → Pushed reading step reading' → Courses at' reading'
+      courses_group g step reading' f means p ps is tree ready tail closes qs placed these =
+          let course = before ps is tree ready tail closes qs placed these in
           let (rest, (e, there)) = walks.token course.rest course.placed in
-          course_group judge ps table tree tail closes text starts at reading course lexeme.place rest at' there reading' g step (tokens_are e f) (means ps table) p
+          course_group judge ps tree tail closes text starts at reading course lexeme.place rest at' there reading' g step (tokens_are e f) (means ps) p
 
       pub courses_star : (places : ℕ) (reading' : Reading) → sign lexeme.token ≡ Trees.star → ((ps : List Part) → IsName (text_of judge.parts) ps → places ≡ length ps + 1) → Repeated reading places reading' → Courses at' reading'
-      courses_star places reading' f whole r ps table is tree ready tail closes qs placed these =
-          let course = before ps table is tree ready tail closes qs placed these in
+      courses_star places reading' f whole r ps is tree ready tail closes qs placed these =
+          let course = before ps is tree ready tail closes qs placed these in
           let (rest, (e, there)) = walks.token course.rest course.placed in
-          course_star judge ps table tree tail closes text starts at reading course lexeme.place rest at' there reading' (tokens_are e f) (subst (λ n. Repeated reading n reading') (whole ps is) r)
+          course_star judge ps tree tail closes text starts at reading course lexeme.place rest at' there reading' (tokens_are e f) (subst (λ n. Repeated reading n reading') (whole ps is) r)
 
       pub courses_bar : (reading' : Reading) → sign lexeme.token ≡ Trees.bar → Barred reading reading' → Courses at' reading'
-      courses_bar reading' f b ps table is tree ready tail closes qs placed these =
-          let course = before ps table is tree ready tail closes qs placed these in
+      courses_bar reading' f b ps is tree ready tail closes qs placed these =
+          let course = before ps is tree ready tail closes qs placed these in
           let (rest, (e, there)) = walks.token course.rest course.placed in
-          course_bar judge ps table tree tail closes text starts at reading course lexeme.place rest at' there reading' (tokens_are e f) b
+          course_bar judge ps tree tail closes text starts at reading course lexeme.place rest at' there reading' (tokens_are e f) b
 
       pub courses_bracket : (places at'' : ℕ) (runs : Runs) (reading' : Reading) → sign lexeme.token ≡ Trees.open_bracket → ((ps : List Part) → IsName (text_of judge.parts) ps → places ≡ length ps + 1) → Judges judge text at' at'' places runs → Pushed reading (Each runs) reading' → Courses at'' reading'
-      courses_bracket places at'' runs reading' f whole judged p ps table is tree ready tail closes qs placed these =
-          let course = before ps table is tree ready tail closes qs placed these in
+      courses_bracket places at'' runs reading' f whole judged p ps is tree ready tail closes qs placed these =
+          let course = before ps is tree ready tail closes qs placed these in
           let (rest, (e, there)) = walks.token course.rest course.placed in
-          let inside = course_inside judge ps table tree tail closes text starts at reading course lexeme.place rest (tokens_are e f) in
+          let inside = course_inside judge ps tree tail closes text starts at reading course lexeme.place rest (tokens_are e f) in
           let tail' = close_bracket ∷ (inside.beyond ++ tail) in
-          let done = judged ps table is (list inside.alts) inside.ready tail' refl rest there inside.these in
-          course_bracket judge ps table tree tail closes text starts at reading course lexeme.place rest inside at'' runs reading' (subst (λ n. Judged ps table (list inside.alts) n runs tail' text at'') (whole ps is) done) p
+          let done = judged ps is (list inside.alts) inside.ready tail' refl rest there inside.these in
+          course_bracket judge ps tree tail closes text starts at reading course lexeme.place rest inside at'' runs reading' (subst (λ n. Judged judge ps (list inside.alts) n runs tail' text at'') (whole ps is) done) p
 
       pub courses_close : (runs : Runs) → sign lexeme.token ≡ close_bracket → Finished reading runs → Judges judge text start at' starts runs
-      courses_close runs f finished ps table is tree ready tail closes qs placed these =
-          let course = before ps table is tree ready tail closes qs placed these in
+      courses_close runs f finished ps is tree ready tail closes qs placed these =
+          let course = before ps is tree ready tail closes qs placed these in
           let (rest, (e, there)) = walks.token course.rest course.placed in
-          course_close judge ps table tree tail closes text starts at reading course runs finished lexeme.place rest at' (tokens_are e f) there
+          course_close judge ps tree tail closes text starts at reading course runs finished lexeme.place rest at' (tokens_are e f) there
 
     -- no token was left
     pub courses_end : (text' : List ℕ) (at' : ℕ) (runs : Runs) → Walks text at None text' at' → Finished reading runs → Judges judge text start at' starts runs
-    courses_end text' at' runs walks finished ps table is tree ready tail closes qs placed these =
-        let course = before ps table is tree ready tail closes qs placed these in
-        course_end judge ps table tree tail closes text starts at reading course runs finished at' (walks.token course.rest course.placed) (placed_end walks)
+    courses_end text' at' runs walks finished ps is tree ready tail closes qs placed these =
+        let course = before ps is tree ready tail closes qs placed these in
+        course_end judge ps tree tail closes text starts at reading course runs finished at' (walks.token course.rest course.placed) (placed_end walks)

@@ -11,7 +11,8 @@ use Rattle.books.specs.Tables.{Table}
 use Rattle.name_parts.specs.Slices.{Spans}
 use Rattle.name_parts.specs.Texts.{text_of}
 use Rattle.openings.specs.Opening.{Numbered, Known}
-use Rattle.openings.specs.Holding.{known}
+use Rattle.openings.specs.Opened.{names_of}
+use Rattle.openings.specs.Answers.{groups_of}
 use Rattle.derivations.specs.Derives.{TreeDerives, exact, GroupOf}
 use Rattle.derivations.specs.References.{tree_groups}
 use Rattle.matching.specs.declared.step.Step.{Step}
@@ -28,21 +29,25 @@ pub record StepMeans (ps : List Part) (Run : List Part → Type 0) (step : Step)
   pub counted : StepCounted step (length ps + 1)
   pub ends : (i j : ℕ) → StepEnds step i j ↔ Spans ps Run i j
 
+-- the groups of the opened list, with their texts
+abbrev pub table_of : Judge → Table
+table_of judge = groups_of judge.opened.now
+
 -- what a tree derives by the groups of a table
 abbrev pub Derived : Table → Tree → List Part → Type 0
 Derived table tree = TreeDerives exact (GroupOf table) tree
 
 -- a group has a number, stands for one tree, and the judge holds what that tree derives
-pub record GroupReady (judge : Judge) (ps : List Part) (table : Table) (g : List ℕ) : Type 0 where
-  pub numbered : Known (known judge.known.now) g
+pub record GroupReady (judge : Judge) (ps : List Part) (g : List ℕ) : Type 0 where
+  pub numbered : Known (names_of (table_of judge)) g
   pub tree : Tree
-  pub stands : GroupOf table g tree
-  pub one : (t : Tree) → GroupOf table g t → t ≡ tree
-  pub held : (k : ℕ) → Numbered (known judge.known.now) g k → (runs : Runs) → runs ≡ slice_index_or judge.groups k runs → Means ps (Derived table tree) (length ps + 1) runs
+  pub stands : GroupOf (table_of judge) g tree
+  pub one : (t : Tree) → GroupOf (table_of judge) g t → t ≡ tree
+  pub held : (k : ℕ) → Numbered (names_of (table_of judge)) g k → (runs : Runs) → runs ≡ slice_index_or judge.groups k runs → Means ps (Derived (table_of judge) tree) (length ps + 1) runs
 
 -- every group that the tree names is ready
-abbrev pub TreeReady : Judge → List Part → Table → Tree → Type 0
-TreeReady judge ps table tree = AllByRecursion (GroupReady judge ps table) (tree_groups tree)
+abbrev pub TreeReady : Judge → List Part → Tree → Type 0
+TreeReady judge ps tree = AllByRecursion (GroupReady judge ps) (tree_groups tree)
 
 -- what follows a list: nothing, or the bracket that closes it
 abbrev pub Closes : List Sign → Type 0
@@ -54,8 +59,8 @@ after [] = []
 after (s ∷ ss) = ss
 
 -- the runs are those of the tree, and the tokens that are left are those after the bracket that closes the list
-pub record Judged (ps : List Part) (table : Table) (tree : Tree) (starts : ℕ) (runs : Runs) (tail : List Sign) (text : List ℕ) (at : ℕ) : Type 0 where
-  pub means : Means ps (Derived table tree) starts runs
+pub record Judged (judge : Judge) (ps : List Part) (tree : Tree) (starts : ℕ) (runs : Runs) (tail : List Sign) (text : List ℕ) (at : ℕ) : Type 0 where
+  pub means : Means ps (Derived (table_of judge) tree) starts runs
   pub rest : List (ℕ × Sign)
   pub placed : Placed text at rest
   pub signs : signs_of rest ≡ after tail
@@ -63,4 +68,4 @@ pub record Judged (ps : List Part) (table : Table) (tree : Tree) (starts : ℕ) 
 -- the tokens from a place on are those of a tree and of what follows it, and the tree is judged from one place to another
 abbrev pub Judges : Judge → List ℕ → ℕ → ℕ → ℕ → Runs → Type 0
 Judges judge text at at' starts runs =
-    (ps : List Part) (table : Table) → IsName (text_of judge.parts) ps → (tree : Tree) → TreeReady judge ps table tree → (tail : List Sign) → Closes tail → (qs : List (ℕ × Sign)) → Placed text at qs → signs_of qs ≡ tree_signs tree ++ tail → Judged ps table tree starts runs tail text at'
+    (ps : List Part) → IsName (text_of judge.parts) ps → (tree : Tree) → TreeReady judge ps tree → (tail : List Sign) → Closes tail → (qs : List (ℕ × Sign)) → Placed text at qs → signs_of qs ≡ tree_signs tree ++ tail → Judged judge ps tree starts runs tail text at'

@@ -9,9 +9,7 @@ use Rattle.matching.specs.Steps.{StepEnds, StepCounted, Repeats}
 
 -- nothing has been read
 pub record Begins (starts : ℕ) (reading : Reading) : Type 0 where
-  pub first : reading.starts ≡ starts
-  pub done_counted : reading.done.count ≡ starts
-  pub seq_counted : reading.seq.count ≡ starts
+  pub first : reading.starts.count ≡ starts
   pub done : (i j : ℕ) → Ends reading.done i j → ⊥
   pub seq : (i j : ℕ) → Ends reading.seq i j ↔ Identity starts i j
   pub last : reading.last ≡ None
@@ -25,7 +23,6 @@ Joined seq (Some step) i j = Composed (Ends seq) (StepEnds step) i j
 pub record Pushed (before : Reading) (step : Step) (after : Reading) : Type 0 where
   pub first : after.starts ≡ before.starts
   pub done : after.done ≡ before.done
-  pub seq_counted : after.seq.count ≡ before.seq.count
   pub seq : (i j : ℕ) → Ends after.seq i j ↔ Joined before.seq before.last i j
   pub last : after.last ≡ Some step
 
@@ -47,13 +44,12 @@ Ended seq (Some step) i j = Composed (Ends seq) (StepEnds step) i j
 
 -- the runs that are done, with those of the sequence
 pub record Finished (reading : Reading) (runs : Runs) : Type 0 where
-  pub counted : runs.count ≡ reading.done.count
-  pub ends : (i j : ℕ) → Ends runs i j ↔ United (Ends reading.done) reading.done.count (Ended reading.seq reading.last) i j
+  pub counted : runs.count ≡ reading.starts.count
+  pub ends : (i j : ℕ) → Ends runs i j ↔ United (Ends reading.done) reading.starts.count (Ended reading.seq reading.last) i j
 
 -- a sequence is done, and another one begins
 pub record Barred (before after : Reading) : Type 0 where
   pub first : after.starts ≡ before.starts
   pub done : Finished before after.done
-  pub seq_counted : after.seq.count ≡ before.starts
-  pub seq : (i j : ℕ) → Ends after.seq i j ↔ Identity before.starts i j
+  pub seq : (i j : ℕ) → Ends after.seq i j ↔ Identity before.starts.count i j
   pub last : after.last ≡ None

@@ -1,6 +1,7 @@
 -- Where a step can end.
 use Rattle.std.specs.Prelude.{◌≡◌, ℕ, ◌+◌, ◌<◌, ◌↔◌}
 use Rattle.positions.specs.Places.{Has}
+use Rattle.runs.specs.declared.relation.Runs.{Runs}
 use Rattle.runs.specs.Relations.{Reach}
 use Rattle.runs.specs.Runs.{Ends}
 use Rattle.matching.specs.declared.step.Step.{Step}
@@ -17,6 +18,11 @@ abbrev pub StepCounted : Step → ℕ → Type 0
 StepCounted (Part places) n = Unit {0}
 StepCounted (Each runs) n = runs.count ≡ n
 StepCounted (Closed each) n = each.runs.count ≡ n
+
+-- the runs are those of a step from the first n places
+pub record StepRuns (step : Step) (n : ℕ) (runs : Runs) : Type 0 where
+  pub counted : runs.count ≡ n
+  pub ends : (i j : ℕ) → Ends runs i j ↔ ((i < n) × StepEnds step i j)
 
 -- any number of steps, each from one of the first n places
 abbrev pub StepReach : Step → ℕ → ℕ → ℕ → Type 0

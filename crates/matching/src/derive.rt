@@ -5,6 +5,7 @@ ghost use Rattle.openings.specs.Answers.{list_of, groups_of};
 ghost use Rattle.derivations.specs.Derives.{exact, ListDerives};
 
 use super::held::Judge;
+use super::places::FirstPlaces;
 use names::name::Name;
 use openings::opened::Opened;
 
@@ -12,9 +13,9 @@ use openings::opened::Opened;
 pub fn derives(opened: &Opened, name: &Name) -> bool
     ensures { Decides result (ListDerives exact (groups_of opened.now) (list_of opened.now) (shown name.now.text)) }
 {
-    let mut judge = Judge::new(name, opened.known());
-    judge.judge_groups(opened);
+    let mut judge = Judge::new(name, opened);
+    judge.judge_groups();
     judge
-        .judge_text(opened.list(), 1)
+        .judge_text(opened.list(), FirstPlaces::one())
         .has(0, judge.parts.count())
 }

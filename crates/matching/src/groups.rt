@@ -1,10 +1,8 @@
 //! Judging the groups of an opened list: each after all that it leads to.
-ghost use Rattle.std.specs.Prelude.{◌≡◌, ℕ, ◌<◌, length};
+ghost use Rattle.std.specs.Prelude.{ℕ, ◌<◌, length};
 ghost use Rattle.positions.specs.Places.{Has};
-ghost use Rattle.openings.specs.Opened.{names_of};
-ghost use Rattle.openings.specs.Holding.{known};
-ghost use Rattle.openings.specs.Answers.{groups_of};
-ghost use Rattle.matching.specs.Ordering.{Goes, AllJudged};
+ghost use Rattle.matching.specs.Judging.{table_of};
+ghost use Rattle.matching.specs.Ordering.{Goes};
 
 use super::held::Judge;
 use links::Links;
@@ -13,35 +11,29 @@ use openings::opened::Opened;
 use positions::Positions;
 
 impl Judge<'_, '_> {
-    // Judges a group after all that it leads to, and answers which groups have been judged then.
-    fn judge_group(&mut self, opened: &Opened, k: usize, judged: Positions) -> Positions
-        requires inside { k < length (groups_of opened.now) }
-        requires numbers { known self.old.known.now ≡ names_of (groups_of opened.now) }
-        ensures goes { Goes (groups_of opened.now) self.old judged.digits self.new result.digits }
-        ensures here { Has result.digits k }
+    // Judges a group after all that it leads to.
+    fn judge_group(&mut self, k: usize)
+        requires { k < length (table_of self.old) }
+        ensures goes { Goes self.old self.new }
+        ensures here { Has self.new.judged.digits k }
     {
-        if judged.contains(k) {
-            return judged;
+        if self.judged.contains(k) {
+            return;
         }
-        let mut all = judged;
-        let mut ahead = opened.leads().row(k);
-        while let Some((m, others)) = ahead.split_first() {
-            all = self.judge_group(opened, m, all);
-            ahead = others;
+        for m in self.opened.leads().row(k) {
+            self.judge_group(m);
         }
-        let runs = self.judge_text(&opened.texts()[k], self.places());
-        self.groups[k] = runs;
-        all.insert(k)
+        self.groups[k] = self.judge_text(&self.opened.texts()[k], self.places());
+        self.judged = self.judged.insert(k);
     }
 
     /// Judges every group.
-    pub(crate) fn judge_groups(&mut self, opened: &Opened)
-        requires { known self.old.known.now ≡ names_of (groups_of opened.now) }
-        ensures { AllJudged (groups_of opened.now) self.old self.new }
+    pub(crate) fn judge_groups(&mut self)
+        ensures goes { Goes self.old self.new }
+        ensures all { (k : ℕ) → k < length (table_of self.new) → Has self.new.judged.digits k }
     {
-        let mut judged = Positions::empty();
-        for k in 0..opened.texts().len() {
-            judged = self.judge_group(opened, k, judged);
+        for k in 0..self.opened.texts().len() {
+            self.judge_group(k);
         }
     }
 }

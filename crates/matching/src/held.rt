@@ -1,34 +1,37 @@
 //! What a judge holds.
-ghost use Rattle.std.specs.Prelude.{◌≡◌, length};
+ghost use Rattle.std.specs.Prelude.{◌≡◌, ℕ};
+ghost use Rattle.positions.specs.Places.{Has};
 ghost use Rattle.texts.specs.Shown.{shown};
 ghost use Rattle.name_parts.specs.Texts.{text_of};
-ghost use Rattle.openings.specs.Holding.{known};
 
 use links::MAX_GROUPS;
 use name_parts::NameParts;
 use names::name::Name;
-use openings::known::KnownGroups;
+use openings::opened::Opened;
+use positions::Positions;
 use runs::Runs;
 
-/// Judges texts against one name, over what their groups derive.
+/// Judges the texts of an opened list against one name, over what the groups derive that have been judged.
 #[derive(Drop)]
-pub(crate) struct Judge<'n, 'g> {
+pub(crate) struct Judge<'n, 'o> {
     pub(crate) parts: NameParts<'n>,
-    pub(crate) known: &'g KnownGroups,
+    pub(crate) opened: &'o Opened,
     pub(crate) groups: [Runs; MAX_GROUPS],
-    ghost room: { length groups ≡ 32 },
+    pub(crate) judged: Positions,
 }
 
-impl<'n, 'g> Judge<'n, 'g> {
+impl<'n, 'o> Judge<'n, 'o> {
     /// A judge that has judged no group yet.
-    pub(crate) fn new(name: &'n Name, numbered: &'g KnownGroups) -> Judge<'n, 'g>
+    pub(crate) fn new(name: &'n Name, opened: &'o Opened) -> Judge<'n, 'o>
         ensures name { text_of result.parts ≡ shown name.now.text }
-        ensures numbers { known result.known.now ≡ known numbered.now }
+        ensures list { result.opened.now ≡ opened.now }
+        ensures none { (k : ℕ) → Has result.judged.digits k → ⊥ }
     {
         Judge {
             parts: NameParts::of(name),
-            known: numbered,
+            opened,
             groups: [Runs::start(0); MAX_GROUPS],
+            judged: Positions::empty(),
         }
     }
 }

@@ -6,12 +6,12 @@ ghost use Rattle.names.specs.Names.{Part, IsName};
 ghost use Rattle.lists.specs.Trees.{Atom, atom, named, Tree};
 ghost use Rattle.lists.specs.Texts.{Reads};
 ghost use Rattle.lists.specs.Lexemes.{sign};
-ghost use Rattle.books.specs.Tables.{Table};
 ghost use Rattle.name_parts.specs.Texts.{text_of};
 ghost use Rattle.derivations.specs.Derives.{AtomDerives, ItemDerives, exact, GroupOf};
-ghost use Rattle.matching.specs.Judging.{Means, StepMeans, Derived, GroupReady, TreeReady, Judges};
+ghost use Rattle.matching.specs.Judging.{table_of, Means, StepMeans, Derived, GroupReady, TreeReady, Judges};
 
 use super::held::Judge;
+use super::places::FirstPlaces;
 use super::reading::Reading;
 use super::step::Step;
 use lists::list::AccessList;
@@ -22,19 +22,20 @@ use positions::Positions;
 use runs::Runs;
 
 impl Judge<'_, '_> {
-    /// How many places the name has: before each part, and after the last.
-    pub(crate) fn places(&self) -> usize
-        ensures parts { (ps : List Part) → IsName (text_of self.now.parts) ps → result ≡ length ps + 1 }
-        ensures few { result ≤ 64 }
+    /// The places of the name: before each part, and after the last.
+    pub(crate) fn places(&self) -> FirstPlaces
+        ensures { (ps : List Part) → IsName (text_of self.now.parts) ps → result.count ≡ length ps + 1 }
     {
-        self.parts.count() + 1
+        FirstPlaces {
+            count: self.parts.count() + 1,
+        }
     }
 
     // All the places of the name.
     fn everywhere(&self) -> Positions
         ensures { (ps : List Part) → IsName (text_of self.now.parts) ps → (i : ℕ) → Has result.digits i ↔ (i < length ps + 1) }
     {
-        Runs::start(self.places()).all()
+        self.places().runs().all()
     }
 
     // The step of an atom.
@@ -53,9 +54,9 @@ impl Judge<'_, '_> {
 
     // The step of a reference to a group.
     fn group(&self, name: &[u8]) -> Step
-        ensures { (ps : List Part) (table : Table) → GroupReady self.now ps table name.now → StepMeans ps (ItemDerives exact (GroupOf table) (named name.now)) result }
+        ensures { (ps : List Part) → GroupReady self.now ps name.now → StepMeans ps (ItemDerives exact (GroupOf (table_of self.now)) (named name.now)) result }
     {
-        match self.known.number_of(name) {
+        match self.opened.known().number_of(name) {
             Some(k) => Step::Runs(self.groups[k]),
             None => Step::Part(Positions::empty()),
         }
@@ -63,11 +64,10 @@ impl Judge<'_, '_> {
 
     // Judges the list whose tokens come next, up to and with the `)` that closes it, or to the end, from the first
     // places.
-    fn judge(&self, tokens: &mut ListTokens<'_>, starts: usize) -> Runs
-        requires { starts ≤ 64 }
+    fn judge(&self, tokens: &mut ListTokens<'_>, starts: FirstPlaces) -> Runs
         ensures kept { tokens.new.text.now ≡ tokens.old.text.now }
         ensures onward { tokens.old.at ≤ tokens.new.at }
-        ensures judged { Judges self.now tokens.old.text.now tokens.old.at tokens.new.at starts result }
+        ensures judged { Judges self.now tokens.old.text.now tokens.old.at tokens.new.at starts.count result }
     {
         let mut reading = Reading::new(starts);
         while let Some(lexeme) = tokens.next() {
@@ -84,9 +84,8 @@ impl Judge<'_, '_> {
     }
 
     /// Judges a whole text from the first places.
-    pub(crate) fn judge_text(&self, list: &AccessList, starts: usize) -> Runs
-        requires { starts ≤ 64 }
-        ensures { (ps : List Part) (table : Table) → IsName (text_of self.now.parts) ps → (tree : Tree) → Reads (shown list.now.text) tree → TreeReady self.now ps table tree → Means ps (Derived table tree) starts result }
+    pub(crate) fn judge_text(&self, list: &AccessList, starts: FirstPlaces) -> Runs
+        ensures { (ps : List Part) → IsName (text_of self.now.parts) ps → (tree : Tree) → Reads (shown list.now.text) tree → TreeReady self.now ps tree → Means ps (Derived (table_of self.now) tree) starts.count result }
     {
         self.judge(&mut list.tokens(), starts)
     }

@@ -5,6 +5,7 @@ mod derive;
 mod groups;
 mod held;
 mod judge;
+mod places;
 mod reading;
 mod step;
 

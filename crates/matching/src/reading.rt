@@ -1,26 +1,30 @@
 //! A reading: what has been read of a list within one bracket.
-ghost use Rattle.std.specs.Prelude.{◌≡◌, ◌≤◌};
-ghost use Rattle.matching.specs.Readings.{Begins, Pushed, Repeated, Finished, Barred};
+ghost use Rattle.std.specs.Prelude.{◌≡◌};
 
+use super::places::FirstPlaces;
 use super::step::Step;
 use runs::Runs;
 
 /// The runs of the alternatives that are done, those of the sequence being read but for its last item, and that item,
 /// which a star may still follow. All runs start at the first places.
+#[derive(Drop)]
 pub(crate) struct Reading {
-    starts: usize,
+    starts: FirstPlaces,
     done: Runs,
     seq: Runs,
     last: Option<Step>,
+    ghost done_counted: { done.count ≡ starts.count },
+    ghost seq_counted: { seq.count ≡ starts.count },
 }
 
 impl Reading {
+    ghost use Rattle.matching.specs.Readings.{Begins, Pushed, Repeated, Finished, Barred};
+
     /// Nothing has been read.
-    pub(crate) fn new(starts: usize) -> Reading
-        requires { starts ≤ 64 }
-        ensures { Begins starts result }
+    pub(crate) fn new(starts: FirstPlaces) -> Reading
+        ensures { Begins starts.count result }
     {
-        let seq = Runs::start(starts);
+        let seq = starts.runs();
         let mut done = seq;
         done.clear();
         Reading {
@@ -42,13 +46,10 @@ impl Reading {
     }
 
     /// A star after the last item.
-    pub(crate) fn star(&mut self, places: usize)
-        requires { places ≤ 64 }
-        ensures { Repeated self.old places self.new }
+    pub(crate) fn star(&mut self, places: FirstPlaces)
+        ensures { Repeated self.old places.count self.new }
     {
-        if let Some(step) = self.last {
-            self.last = Some(step.starred(places));
-        }
+        self.last = self.last.map(|step| step.starred(places));
     }
 
     // The runs of the sequence join those that are done.
@@ -64,11 +65,10 @@ impl Reading {
 
     /// The sequence is done, and another one begins.
     pub(crate) fn bar(&mut self)
-        requires { self.old.starts ≤ 64 }
         ensures { Barred self.old self.new }
     {
         self.end_sequence();
-        self.seq = Runs::start(self.starts);
+        self.seq = self.starts.runs();
         self.last = None;
     }
 
@@ -77,12 +77,6 @@ impl Reading {
         ensures { Finished self result }
     {
         self.end_sequence();
-        let Reading {
-            starts: _,
-            done,
-            seq: _,
-            last: _,
-        } = self;
-        done
+        self.done
     }
 }

@@ -1,9 +1,10 @@
 //! Steps: what one item of a list derives, from every place of a name.
-ghost use Rattle.std.specs.Prelude.{◌≡◌, ℕ, ◌<◌, ◌≤◌, ◌↔◌};
+ghost use Rattle.std.specs.Prelude.{◌≡◌, ℕ, ◌↔◌};
 ghost use Rattle.runs.specs.Relations.{Composed};
 ghost use Rattle.runs.specs.Runs.{Ends};
-ghost use Rattle.matching.specs.Steps.{StepEnds, StepCounted, Repeats};
+ghost use Rattle.matching.specs.Steps.{StepEnds, StepCounted, StepRuns, Repeats};
 
+use super::places::FirstPlaces;
 use positions::Positions;
 use runs::{ClosedRuns, Runs};
 
@@ -29,14 +30,12 @@ impl Step {
     }
 
     // The step as a relation from the first places.
-    fn into_runs(self, places: usize) -> Runs
-        requires { places ≤ 64 }
-        ensures counted { StepCounted self places → result.count ≡ places }
-        ensures ends { StepCounted self places → (i j : ℕ) → Ends result i j ↔ ((i < places) × StepEnds self i j) }
+    fn into_runs(self, places: FirstPlaces) -> Runs
+        ensures { StepCounted self places.count → StepRuns self places.count result }
     {
         match self {
             Step::Part(part) => {
-                let mut runs = Runs::start(places);
+                let mut runs = places.runs();
                 runs.advance(part);
                 runs
             }
@@ -46,9 +45,8 @@ impl Step {
     }
 
     /// The step any number of times.
-    pub(crate) fn starred(self, places: usize) -> Step
-        requires { places ≤ 64 }
-        ensures { StepCounted self places → Repeats self result places }
+    pub(crate) fn starred(self, places: FirstPlaces) -> Step
+        ensures { StepCounted self places.count → Repeats self result places.count }
     {
         Step::Closed(self.into_runs(places).closed())
     }

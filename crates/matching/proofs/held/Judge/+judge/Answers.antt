@@ -8,7 +8,7 @@ pub loop-lexeme-init : goal.loop-lexeme-init
 loop-lexeme-init t c =
     let tokens = c.args.tokens.now in
     let begun = c.new-reading.ensures in
-    (tt, tt, refl, omega arith, begun.first, courses_start c.args.self.now tokens.text.now tokens.at c.args.starts c.new-reading.result begun)
+    (tt, tt, refl, omega arith, courses_start c.args.self.now tokens.text.now tokens.at c.args.starts.count c.new-reading.result begun)
 
 pub loop-lexeme-preserved-in-Open : goal.loop-lexeme-preserved-in-Open
 loop-lexeme-preserved-in-Open t c =
@@ -22,9 +22,8 @@ loop-lexeme-preserved-in-Open t c =
       tt,
       judged.kept ∙ walks.kept,
       omega (arith, before.invariant.3, walks.onward, judged.onward),
-      c.push.ensures.first ∙ before.invariant.4,
-      courses_bracket c.args.self.now tokens.text.now tokens.at c.args.starts before.tokens.at before.reading before.invariant.5 c.in-Some.lexeme passed.text.now passed.at walks c.places.result last.at c.judge.result c.push.new.self
-          (ap sign c.in-Open.is) c.places.ensures.parts (subst (λ text. Judges c.args.self.now text passed.at last.at c.places.result c.judge.result) walks.kept judged.judged) c.push.ensures,
+      courses_bracket c.args.self.now tokens.text.now tokens.at c.args.starts.count before.tokens.at before.reading before.invariant.4 c.in-Some.lexeme passed.text.now passed.at walks c.places.result.count last.at c.judge.result c.push.new.self
+          (ap sign c.in-Open.is) c.places.ensures (subst (λ text. Judges c.args.self.now text passed.at last.at c.places.result.count c.judge.result) walks.kept judged.judged) c.push.ensures,
     )
 
 pub returns-in-Close : goal.returns-in-Close
@@ -36,7 +35,7 @@ returns-in-Close t c =
     record {
       kept = walks.kept;
       onward = omega (arith, before.invariant.3, walks.onward);
-      judged = courses_close c.args.self.now tokens.text.now tokens.at c.args.starts before.tokens.at before.reading before.invariant.5 c.in-Some.lexeme passed.text.now passed.at walks c.finish.result (ap sign c.in-Close.is) c.finish.ensures;
+      judged = courses_close c.args.self.now tokens.text.now tokens.at c.args.starts.count before.tokens.at before.reading before.invariant.4 c.in-Some.lexeme passed.text.now passed.at walks c.finish.result (ap sign c.in-Close.is) c.finish.ensures;
     }
 
 pub loop-lexeme-preserved-in-Star : goal.loop-lexeme-preserved-in-Star
@@ -49,8 +48,7 @@ loop-lexeme-preserved-in-Star t c =
       tt,
       walks.kept,
       omega (arith, before.invariant.3, walks.onward),
-      c.star.ensures.first ∙ before.invariant.4,
-      courses_star c.args.self.now tokens.text.now tokens.at c.args.starts before.tokens.at before.reading before.invariant.5 c.in-Some.lexeme passed.text.now passed.at walks c.places-in-Star.result c.star.new.self (ap sign c.in-Star.is) c.places-in-Star.ensures.parts c.star.ensures,
+      courses_star c.args.self.now tokens.text.now tokens.at c.args.starts.count before.tokens.at before.reading before.invariant.4 c.in-Some.lexeme passed.text.now passed.at walks c.places-in-Star.result.count c.star.new.self (ap sign c.in-Star.is) c.places-in-Star.ensures c.star.ensures,
     )
 
 pub loop-lexeme-preserved-in-Bar : goal.loop-lexeme-preserved-in-Bar
@@ -63,8 +61,7 @@ loop-lexeme-preserved-in-Bar t c =
       tt,
       walks.kept,
       omega (arith, before.invariant.3, walks.onward),
-      c.bar.ensures.first ∙ before.invariant.4,
-      courses_bar c.args.self.now tokens.text.now tokens.at c.args.starts before.tokens.at before.reading before.invariant.5 c.in-Some.lexeme passed.text.now passed.at walks c.bar.new.self (ap sign c.in-Bar.is) c.bar.ensures,
+      courses_bar c.args.self.now tokens.text.now tokens.at c.args.starts.count before.tokens.at before.reading before.invariant.4 c.in-Some.lexeme passed.text.now passed.at walks c.bar.new.self (ap sign c.in-Bar.is) c.bar.ensures,
     )
 
 pub loop-lexeme-preserved-in-Group : goal.loop-lexeme-preserved-in-Group
@@ -77,8 +74,7 @@ loop-lexeme-preserved-in-Group t c =
       tt,
       walks.kept,
       omega (arith, before.invariant.3, walks.onward),
-      c.push-in-Group.ensures.first ∙ before.invariant.4,
-      courses_group c.args.self.now tokens.text.now tokens.at c.args.starts before.tokens.at before.reading before.invariant.5 c.in-Some.lexeme passed.text.now passed.at walks c.in-Group.name.now c.group.result c.push-in-Group.new.self (ap sign c.in-Group.is) c.group.ensures c.push-in-Group.ensures,
+      courses_group c.args.self.now tokens.text.now tokens.at c.args.starts.count before.tokens.at before.reading before.invariant.4 c.in-Some.lexeme passed.text.now passed.at walks c.in-Group.name.now c.group.result c.push-in-Group.new.self (ap sign c.in-Group.is) c.group.ensures c.push-in-Group.ensures,
     )
 
 pub loop-lexeme-preserved : goal.loop-lexeme-preserved
@@ -93,8 +89,7 @@ loop-lexeme-preserved t c =
       tt,
       walks.kept,
       omega (arith, before.invariant.3, walks.onward),
-      c.push-in_default-token.ensures.first ∙ before.invariant.4,
-      courses_atom c.args.self.now tokens.text.now tokens.at c.args.starts before.tokens.at before.reading before.invariant.5 c.in-Some.lexeme passed.text.now passed.at walks a c.atom.result c.push-in_default-token.new.self is-atom (λ ps is. c.atom.ensures ps is a is-atom) c.push-in_default-token.ensures,
+      courses_atom c.args.self.now tokens.text.now tokens.at c.args.starts.count before.tokens.at before.reading before.invariant.4 c.in-Some.lexeme passed.text.now passed.at walks a c.atom.result c.push-in_default-token.new.self is-atom (λ ps is. c.atom.ensures ps is a is-atom) c.push-in_default-token.ensures,
     )
 
 pub returns : goal.returns
@@ -106,5 +101,5 @@ returns t c =
     record {
       kept = walks.kept;
       onward = omega (arith, before.invariant.3, walks.found.forward, walks.end);
-      judged = courses_end c.args.self.now tokens.text.now tokens.at c.args.starts before.tokens.at before.reading before.invariant.5 passed.text.now passed.at c.finish-2.result walks c.finish-2.ensures;
+      judged = courses_end c.args.self.now tokens.text.now tokens.at c.args.starts.count before.tokens.at before.reading before.invariant.4 passed.text.now passed.at c.finish-2.result walks c.finish-2.ensures;
     }

@@ -12,5 +12,4 @@ invariant-loop-lexeme l =
     × (goal.iterator-loop-lexeme).is_finite l.tokens
     × (l.tokens.text.now ≡ l.initial.tokens.text.now)
     × (l.initial.tokens.at ≤ l.tokens.at)
-    × (l.reading.starts ≡ l.starts)
-    × Courses l.self l.initial.tokens.text.now l.initial.tokens.at l.starts l.tokens.at l.reading
+    × Courses l.self l.initial.tokens.text.now l.initial.tokens.at l.fn.starts.count l.tokens.at l.reading

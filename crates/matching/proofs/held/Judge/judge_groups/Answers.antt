@@ -1,18 +1,15 @@
-use Rattle.std.proofs.Common.{◌∙◌, arith}
+use Rattle.std.proofs.Common.{◌<◌, length, subst, arith}
 use Rattle.openings.specs.Answers.{groups_of}
+use Rattle.matching.specs.Judging.{table_of}
 use Rattle.matching.proofs.Views.{texts_count}
+use Rattle.matching.proofs.Ahead.{goes_below}
 use Rattle.matching.proofs.held.Judge.judge_groups.Goals as goal
 
-pub judge_group-judged-requires : goal.judge_group-judged-requires
-judge_group-judged-requires c = record {
-  inside = omega (arith, texts_count (groups_of c.args.opened.now) c.texts-k-end.result.now c.texts-k-end.ensures);
-  numbers = c.loop-k.invariant.0.stays.numbers ∙ c.requires;
-}
+pub judge_group-requires : goal.judge_group-requires
+judge_group-requires c = goes_below c.loop-k.invariant.0 (omega (arith, texts_count (table_of c.args.self.now) c.texts-k-end.result.now c.texts-k-end.ensures))
 
-pub returns : goal.returns
-returns c =
-    let inv = c.loop-k.invariant in
-    record {
-      stays = inv.0.stays;
-      held = λ ps is k lt. inv.0.held ps is (λ j h. absurd (c.empty-judged.ensures j h)) k (inv.1 k (omega (arith, texts_count (groups_of c.args.opened.now) c.texts-k-end.result.now c.texts-k-end.ensures))) lt;
-    }
+pub returns-clause-all : goal.returns-clause-all
+returns-clause-all c k lt =
+    let was = c.args.self.now in
+    let below : k < length (table_of was) = subst (λ o. k < length (groups_of o)) c.loop-k.invariant.0.stays.list lt in
+    c.loop-k.invariant.1 k (omega (arith, below, texts_count (table_of was) c.texts-k-end.result.now c.texts-k-end.ensures))

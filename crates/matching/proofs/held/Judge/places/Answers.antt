@@ -1,7 +1,6 @@
 use Rattle.std.proofs.Common.{ℕ, ◌+◌, ◌≤◌, ap, arith}
 use mathlib.Core.Logic.{∥∥₁_elim}
 use native.Mathlib.Bridge.{le_prop}
-use mir.Facts.{Fits-below}
 use Rattle.names.specs.Names.{PartsOf}
 use Rattle.name_parts.specs.declared.table.NameParts.{NameParts}
 use Rattle.name_parts.specs.Texts.{text_of}
@@ -11,8 +10,8 @@ use Rattle.matching.proofs.held.Judge.places.Goals as goal
 few_parts : (parts : NameParts) (n : ℕ) → PartsOf (text_of parts) n → n + 1 ≤ 64
 few_parts parts n count = ∥∥₁_elim parts.lawful le_prop (λ l. omega (arith, count l.0 l.1, l.1.few))
 
-pub overflow_add-result : goal.overflow_add-result
-overflow_add-result c = Fits-below {n = 64} tt (few_parts c.args.self.now.parts c.count.result c.count.ensures)
+pub invariant_of-result : goal.invariant_of-result
+invariant_of-result c = record { few = few_parts c.args.self.now.parts c.count.result c.count.ensures }
 
 pub returns : goal.returns
-returns c = record { parts = λ ps is. ap (λ n. n + 1) (c.count.ensures ps is); few = few_parts c.args.self.now.parts c.count.result c.count.ensures }
+returns c ps is = ap (λ n. n + 1) (c.count.ensures ps is)
