@@ -5,10 +5,6 @@ ghost use Rattle.matching.specs.Judging.{table_of};
 ghost use Rattle.matching.specs.Ordering.{Goes};
 
 use super::held::Judge;
-use links::Links;
-use lists::list::AccessList;
-use openings::opened::Opened;
-use positions::Positions;
 
 impl Judge<'_, '_> {
     // Judges a group after all that it leads to.

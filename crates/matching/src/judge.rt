@@ -56,6 +56,7 @@ impl Judge<'_, '_> {
     fn group(&self, name: &[u8]) -> Step
         ensures { (ps : List Part) → GroupReady self.now ps name.now → StepMeans ps (ItemDerives exact (GroupOf (table_of self.now)) (named name.now)) result }
     {
+        // A closure for `map_or` would have to state the bound of its index and what it gives.
         match self.opened.known().number_of(name) {
             Some(k) => Step::Runs(self.groups[k]),
             None => Step::Part(Positions::empty()),

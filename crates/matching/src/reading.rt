@@ -1,5 +1,5 @@
 //! A reading: what has been read of a list within one bracket.
-ghost use Rattle.std.specs.Prelude.{◌≡◌};
+ghost use Rattle.std.specs.Prelude.{◌≡◌, None};
 
 use super::places::FirstPlaces;
 use super::step::Step;
@@ -39,10 +39,9 @@ impl Reading {
     pub(crate) fn push(&mut self, step: Step)
         ensures { Pushed self.old step self.new }
     {
-        if let Some(before) = self.last {
+        if let Some(before) = self.last.replace(step) {
             before.follow(&mut self.seq);
         }
-        self.last = Some(step);
     }
 
     /// A star after the last item.
@@ -56,8 +55,9 @@ impl Reading {
     fn end_sequence(&mut self)
         ensures starts { self.new.starts ≡ self.old.starts }
         ensures done { Finished self.old self.new.done }
+        ensures last { self.new.last ≡ None }
     {
-        if let Some(step) = self.last {
+        if let Some(step) = self.last.take() {
             step.follow(&mut self.seq);
             self.done.unite(&self.seq);
         }
@@ -69,7 +69,6 @@ impl Reading {
     {
         self.end_sequence();
         self.seq = self.starts.runs();
-        self.last = None;
     }
 
     /// All alternatives are done.
