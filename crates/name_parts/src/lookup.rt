@@ -51,12 +51,10 @@ impl<'a> NameParts<'a> {
         ensures { WordPlaces (text_of self.now) word.now among.digits result.digits }
     {
         let mut places = Positions::empty();
-        let mut left = among.common(self.outline.words);
-        while let Some((i, others)) = left.split_first() {
+        for i in among.common(self.outline.words) {
             if self.bytes_at(i) == word {
                 places = places.insert(i);
             }
-            left = others;
         }
         places
     }

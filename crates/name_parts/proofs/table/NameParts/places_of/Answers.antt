@@ -1,20 +1,23 @@
-use Rattle.std.proofs.Common.{◌≡◌}
+use Rattle.std.proofs.Common.{◌≡◌, sym, subst}
 use Rattle.std.proofs.lemmas.Slice.Eq.{slice_eq-Decides}
+use Rattle.std.proofs.lemmas.Bool.Decides.{Decides-eqb}
 use Rattle.std.proofs.lemmas.Bool.{both_ways}
 use Rattle.names.specs.Names.{word}
+use Rattle.positions.specs.Places.{Has}
 use Rattle.name_parts.specs.Slices.{PartAt}
 use Rattle.name_parts.proofs.Holding.{held_words, held_inside, word_found, word_missed}
 use Rattle.name_parts.proofs.Finding.{found_none, found_hit, found_miss, found_all}
 use Rattle.name_parts.proofs.table.NameParts.places_of.Goals as goal
-use Rattle.std.proofs.lemmas.Bool.Decides.{Decides-eqb}
 
 pub loop-i-init : goal.loop-i-init
-loop-i-init c ps name = found_none (PartAt ps (word c.args.word.now)) c.common-left.result.digits c.empty-places.result.digits c.empty-places.ensures
+loop-i-init c ps name = found_none (PartAt ps (word c.args.word.now)) c.into_iter-i-iterator.result.left.digits c.empty-places.result.digits c.empty-places.ensures
 
 pub bytes_at-requires : goal.bytes_at-requires
 bytes_at-requires c =
     let self = c.args.self.now in
-    held_inside self.text.now self.outline self.outlined self.lawful c.in-Some.i (λ ps name. ((c.common-left.ensures c.in-Some.i).0 ((c.loop-i.invariant ps name).among c.in-Some.i c.in-Some.ensures.first.here)).1)
+    let i = c.in-Some.i in
+    held_inside self.text.now self.outline self.outlined self.lawful i
+    (λ ps name. ((c.common-i-items.ensures i).0 (subst (λ s. Has s.digits i) c.into_iter-i-iterator.ensures.into_iter_gives ((c.loop-i.invariant ps name).among i c.in-Some.ensures.steps.first.here))).1)
 
 pub loop-i-preserved-then-eq : goal.loop-i-preserved-then-eq
 loop-i-preserved-then-eq c ps name =
@@ -22,10 +25,10 @@ loop-i-preserved-then-eq c ps name =
     let w = c.args.word.now in
     let i = c.in-Some.i in
     let was = c.loop-i.invariant ps name in
-    let split = c.in-Some.ensures in
+    let split = c.in-Some.ensures.steps in
     let same = (slice_eq-Decides Decides-eqb c.bytes_at.result.now w c.eq.result c.eq.ensures).0 c.if-eq.true in
-    let has = ((c.common-left.ensures i).0 (was.among i split.first.here)).1 in
-    found_hit (PartAt ps (word w)) c.common-left.result.digits c.loop-i.left.digits c.loop-i.places.digits was i c.in-Some.others.digits split c.insert-places.result.digits
+    let has = ((c.common-i-items.ensures i).0 (subst (λ s. Has s.digits i) c.into_iter-i-iterator.ensures.into_iter_gives (was.among i split.first.here))).1 in
+    found_hit (PartAt ps (word w)) c.into_iter-i-iterator.result.left.digits c.loop-i.i-iterator.left.digits c.loop-i.places.digits was i c.next.new.self.left.digits split c.insert-places.result.digits
     (word_found self.text.now self.outline self.outlined ps name i c.bytes_at.result.now w c.bytes_at.ensures has same)
     c.insert-places.ensures
 
@@ -35,14 +38,15 @@ loop-i-preserved c ps name =
     let w = c.args.word.now in
     let i = c.in-Some.i in
     let other : c.bytes_at.result.now ≡ w → ⊥ = λ e. both_ways c.eq.result c.if-eq.false ((slice_eq-Decides Decides-eqb c.bytes_at.result.now w c.eq.result c.eq.ensures).1 e) in
-    found_miss (PartAt ps (word w)) c.common-left.result.digits c.loop-i.left.digits c.loop-i.places.digits (c.loop-i.invariant ps name) i c.in-Some.others.digits c.in-Some.ensures
+    found_miss (PartAt ps (word w)) c.into_iter-i-iterator.result.left.digits c.loop-i.i-iterator.left.digits c.loop-i.places.digits (c.loop-i.invariant ps name) i c.next.new.self.left.digits c.in-Some.ensures.steps
     (word_missed self.text.now self.outline self.outlined ps name i c.bytes_at.result.now w c.bytes_at.ensures other)
 
 pub returns : goal.returns
 returns c ps name i =
     let self = c.args.self.now in
     let w = c.args.word.now in
-    let all = found_all (PartAt ps (word w)) c.common-left.result.digits c.loop-i.left.digits c.loop-i.places.digits (c.loop-i.invariant ps name) c.in_default.ensures i in (
-      λ h. let (a, at-it) = all.0 h in (((c.common-left.ensures i).0 a).0, at-it),
-      λ (a, at-it). all.1 ((c.common-left.ensures i).1 (a, (held_words self.text.now self.outline self.outlined ps name i).1 (w, at-it)), at-it),
+    let gives = c.into_iter-i-iterator.ensures.into_iter_gives in
+    let all = found_all (PartAt ps (word w)) c.into_iter-i-iterator.result.left.digits c.loop-i.i-iterator.left.digits c.loop-i.places.digits (c.loop-i.invariant ps name) c.in-None.ensures.steps.0 i in (
+      λ h. let (a, at-it) = all.0 h in (((c.common-i-items.ensures i).0 (subst (λ s. Has s.digits i) gives a)).0, at-it),
+      λ (a, at-it). all.1 (subst (λ s. Has s.digits i) (sym gives) ((c.common-i-items.ensures i).1 (a, (held_words self.text.now self.outline self.outlined ps name i).1 (w, at-it))), at-it),
     )

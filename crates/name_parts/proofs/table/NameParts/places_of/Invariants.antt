@@ -5,7 +5,4 @@ use Rattle.name_parts.proofs.Finding.{Found}
 use Rattle.name_parts.proofs.table.NameParts.places_of.Given as goal
 
 abbrev pub invariant-loop-i : goal.invariant-loop-i
-invariant-loop-i l = (ps : List Part) → IsName l.self.text.now ps → Found (PartAt ps (word l.word)) l.initial.left.digits l.left.digits l.places.digits
-
-abbrev pub decreases-loop-i : goal.decreases-loop-i
-decreases-loop-i l = l.left.digits
+invariant-loop-i l = (ps : List Part) → IsName l.self.text.now ps → Found (PartAt ps (word l.word)) l.initial.i-iterator.left.digits l.i-iterator.left.digits l.places.digits
