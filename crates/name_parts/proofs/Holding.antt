@@ -6,9 +6,12 @@ use Rattle.positions.specs.Places.{Has}
 use Rattle.positions.proofs.Digits.{has_or_not}
 use Rattle.runs.specs.declared.relation.Runs.{Runs}
 use Rattle.runs.specs.Runs.{Ends}
+use Rattle.name_parts.specs.declared.mark.Mark.{Mark}
+use Rattle.name_parts.specs.declared.mark.Mark.TheVariants.{Dot}
 use Rattle.name_parts.specs.declared.outline.Outline.{Outline}
+use Rattle.name_parts.specs.Marks.{part_of_mark}
 use Rattle.name_parts.specs.Slices.{PartAt}
-use Rattle.name_parts.specs.Outlines.{WordAt, start_of, Sees, Outlined, OutlineOf, EndOf, BytesAt}
+use Rattle.name_parts.specs.Outlines.{WordAt, start_of, Sees, count_of, mark_places, Outlined, OutlineOf, EndOf, BytesAt}
 use Rattle.name_parts.specs.Dotted.{DottedWords}
 use Rattle.name_parts.specs.Tables.{PartialNames}
 use Rattle.name_parts.proofs.Mere.{mere_out, mere_eq, mere_lt, mere_le}
@@ -18,16 +21,16 @@ use Rattle.name_parts.proofs.Deciding.{spans_or_not, ends_or_not}
 use Rattle.name_parts.proofs.Joining.{lawful_word, dotted_spans}
 
 -- a name has at most 63 parts
-pub held_few : (text : List ℕ) (o : Outline) → ∥ LawfulName text ∥₁ → OutlineOf text o → o.count ≤ 63
-held_few text o lawful outline = mere_le lawful o.count 63 (λ (ps, name). omega (arith, (outline ps name).all, name.few))
+pub held_few : (text : List ℕ) (o : Outline) → ∥ LawfulName text ∥₁ → OutlineOf text o → (count_of o) ≤ 63
+held_few text o lawful outline = mere_le lawful (count_of o) 63 (λ (ps, name). omega (arith, (outline ps name).all, name.few))
 
 -- the runs of words joined by dots are the partial names
-pub held_partial : (text : List ℕ) (o : Outline) (r : Runs) → OutlineOf text o → r.count ≡ min (o.count + 1) 64 → ((i j : ℕ) → Ends r i j ↔ DottedWords (min (o.count + 1) 64) o.words.digits o.dots.digits i j) → PartialNames text r
+pub held_partial : (text : List ℕ) (o : Outline) (r : Runs) → OutlineOf text o → r.count ≡ min ((count_of o) + 1) 64 → ((i j : ℕ) → Ends r i j ↔ DottedWords (min ((count_of o) + 1) 64) o.words.digits o.dots.digits i j) → PartialNames text r
 held_partial text o r outline counted ends ps name =
     let whole = outline ps name in
-    let count : min (o.count + 1) 64 ≡ length ps + 1 = omega (arith, whole.all, name.few) in
-    let see : (Kind : ℕ → Type 0) (d : ℕ) → Sees Kind o.count d → ((i : ℕ) → Kind i → i < length ps) → (i : ℕ) → Has d i ↔ Kind i = λ Kind d sees inside i. (λ h. ((sees i).0 h).1, λ k. (sees i).1 (omega (arith, inside i k, whole.all), k)) in
-    let spans = dotted_spans ps (lawful_word (alternates name.form)) name.few (min (o.count + 1) 64) o.words.digits o.dots.digits count (see (WordAt ps) o.words.digits whole.outlined.words (λ i a. a.1.inside)) (see (PartAt ps dot) o.dots.digits whole.outlined.dots (λ i a. a.inside)) in
+    let count : min ((count_of o) + 1) 64 ≡ length ps + 1 = omega (arith, whole.all, name.few) in
+    let see : (Kind : ℕ → Type 0) (d : ℕ) → Sees Kind (count_of o) d → ((i : ℕ) → Kind i → i < length ps) → (i : ℕ) → Has d i ↔ Kind i = λ Kind d sees inside i. (λ h. ((sees i).0 h).1, λ k. (sees i).1 (omega (arith, inside i k, whole.all), k)) in
+    let spans = dotted_spans ps (lawful_word (alternates name.form)) name.few (min ((count_of o) + 1) 64) o.words.digits o.dots.digits count (see (WordAt ps) o.words.digits whole.outlined.words (λ i a. a.1.inside)) (see (PartAt ps dot) o.dots.digits (whole.outlined.marks Dot) (λ i a. a.inside)) in
     record { counted = counted ∙ count; ends = λ i j. (λ e. (spans i j).0 ((ends i j).0 e), λ s. (ends i j).1 ((spans i j).1 s)) }
 
 -- what is merely known of partial names is known
@@ -39,14 +42,14 @@ mere_partial text r mere ps name = record {
 
 module _ (text : List ℕ) (o : Outline) (mere : ∥ OutlineOf text o ∥₁) where
   module _ (ps : List Part) (name : IsName text ps) where
-    pub held_count : o.count ≡ length ps
-    held_count = mere_eq mere o.count (length ps) (λ f. (f ps name).all)
+    pub held_count : (count_of o) ≡ length ps
+    held_count = mere_eq mere (count_of o) (length ps) (λ f. (f ps name).all)
 
-    pub held_start : (i : ℕ) → i < o.count → get_or o.starts i 0 ≡ start_of ps i
-    held_start i lt = mere_eq mere (get_or o.starts i 0) (start_of ps i) (λ f. (f ps name).outlined.starts i lt)
+    pub held_start : (i : ℕ) → i < (count_of o) → get_or o.starts.items i 0 ≡ start_of ps i
+    held_start i lt = mere_eq mere (get_or o.starts.items i 0) (start_of ps i) (λ f. (f ps name).outlined.starts i lt)
 
     -- the places of a kind
-    held : (Kind : ℕ → Type 0) (d : ℕ) → (Outlined ps o → Sees Kind o.count d) → ((i : ℕ) → Kind i ⊎ (Kind i → ⊥)) → ((i : ℕ) → Kind i → i < length ps) → (i : ℕ) → Has d i ↔ Kind i
+    held : (Kind : ℕ → Type 0) (d : ℕ) → (Outlined ps o → Sees Kind (count_of o) d) → ((i : ℕ) → Kind i ⊎ (Kind i → ⊥)) → ((i : ℕ) → Kind i → i < length ps) → (i : ℕ) → Has d i ↔ Kind i
     held Kind d sees decided inside i = (
       λ h. mere_out mere (decided i) (λ f. ((sees (f ps name).outlined i).0 h).1),
       λ k. mere_out mere (has_or_not d i) (λ f. (sees (f ps name).outlined i).1 (omega (arith, inside i k, held_count), k)),
@@ -55,19 +58,19 @@ module _ (text : List ℕ) (o : Outline) (mere : ∥ OutlineOf text o ∥₁) wh
     pub held_words : (i : ℕ) → Has o.words.digits i ↔ WordAt ps i
     held_words = held (WordAt ps) o.words.digits (λ x. x.words) (word_or_not ps) (λ i a. a.1.inside)
 
-    pub held_mark : (p : Part) (d : ℕ) → (Outlined ps o → Sees (PartAt ps p) o.count d) → (i : ℕ) → Has d i ↔ PartAt ps p i
-    held_mark p d sees = held (PartAt ps p) d sees (part_or_not ps p) (λ i a. a.inside)
+    pub held_mark : (m : Mark) (i : ℕ) → Has (mark_places o m).digits i ↔ PartAt ps (part_of_mark m) i
+    held_mark m = held (PartAt ps (part_of_mark m)) (mark_places o m).digits (λ x. x.marks m) (part_or_not ps (part_of_mark m)) (λ i a. a.inside)
 
   module _ (lawful : ∥ LawfulName text ∥₁) where
     -- a word is at one of the places
-    pub held_inside : (i : ℕ) → ((ps : List Part) → IsName text ps → Has o.words.digits i) → i < o.count
-    held_inside i has = mere_lt lawful i o.count (λ (ps, name). omega (arith, ((held_words ps name i).0 (has ps name)).1.inside, held_count ps name))
+    pub held_inside : (i : ℕ) → ((ps : List Part) → IsName text ps → Has o.words.digits i) → i < (count_of o)
+    held_inside i has = mere_lt lawful i (count_of o) (λ (ps, name). omega (arith, ((held_words ps name i).0 (has ps name)).1.inside, held_count ps name))
 
     -- a part begins before it ends, within the text
-    module _ (i end : ℕ) (lt : i < o.count) (ends : EndOf text i end) where
-      pub held_forward : get_or o.starts i 0 ≤ end
+    module _ (i end : ℕ) (lt : i < (count_of o)) (ends : EndOf text i end) where
+      pub held_forward : get_or o.starts.items i 0 ≤ end
       held_forward =
-          mere_le lawful (get_or o.starts i 0) end (λ (ps, name).
+          mere_le lawful (get_or o.starts.items i 0) end (λ (ps, name).
           let here = part_here ps i dot (omega (arith, held_count ps name)) in
           omega (arith, held_start ps name i lt, ends ps name, start_more ps (get_or ps i dot) i here))
 

@@ -6,7 +6,7 @@ use Rattle.names.specs.declared.part.Part.{Part as WalkedPart}
 use Rattle.names.specs.Names.{Part, dot, spell, Steps, IsName, LawfulName}
 use Rattle.names.specs.Parts.{part_of, Walks}
 use Rattle.name_parts.specs.Slices.{PartAt}
-use Rattle.name_parts.specs.Outlines.{start_of, Outlined, Blank, Noted, OutlineOf}
+use Rattle.name_parts.specs.Outlines.{start_of, count_of, Outlined, Blank, Noted, OutlineOf}
 use Rattle.name_parts.specs.declared.outline.Outline.{Outline}
 use Rattle.name_parts.proofs.Mere.{mere_lt}
 use Rattle.name_parts.proofs.Standing.{part_here}
@@ -15,7 +15,7 @@ use Rattle.name_parts.proofs.Spelling.{cut, end_is}
 -- the walk stands behind the parts that are noted
 pub record Behind (ps : List Part) (place : ℕ) (o : Outline) : Type 0 where
   pub outlined : Outlined ps o
-  pub there : place ≡ start_of ps o.count
+  pub there : place ≡ start_of ps (count_of o)
 
 -- the walk over the name that a text is
 abbrev pub Sofar : List ℕ → ℕ → Outline → Type 0
@@ -59,19 +59,19 @@ sofar_none text o blank place start ps name = record { outlined = blank.outlined
 
 -- one step of the walk
 module _ (text : List ℕ) (place : ℕ) (o : Outline) (sofar : Sofar text place o) (given : Option (ℕ × WalkedPart)) (text' : List ℕ) (place' : ℕ) (walks : Walks text place given text' place') where
-  pub sofar_few : (start : ℕ) (part : WalkedPart) → given ≡ Some (start, part) → ∥ LawfulName text ∥₁ → o.count < 64
+  pub sofar_few : (start : ℕ) (part : WalkedPart) → given ≡ Some (start, part) → ∥ LawfulName text ∥₁ → (count_of o) < 64
   sofar_few start part e lawful =
-      mere_lt lawful o.count 64
-      (λ l. let lt = inside text l.0 l.1 place o.count (sofar l.0 l.1).there given text' place' walks start part e in omega (arith, l.1.few))
+      mere_lt lawful (count_of o) 64
+      (λ l. let lt = inside text l.0 l.1 place (count_of o) (sofar l.0 l.1).there given text' place' walks start part e in omega (arith, l.1.few))
 
   pub sofar_more : (start : ℕ) (part : WalkedPart) → given ≡ Some (start, part) → (o' : Outline) → Noted o start part o' → Sofar text place' o'
   sofar_more start part e o' noted ps name =
       let was = sofar ps name in record {
-        outlined = noted.outlined ps was.outlined (given_part text ps name place o.count was.there given text' place' walks start part e) (given_start text ps name place o.count was.there given text' place' walks start part e);
-        there = given_end text ps name place o.count was.there given text' place' walks start part e ∙ ap (start_of ps) (sym noted.more);
+        outlined = noted.outlined ps was.outlined (given_part text ps name place (count_of o) was.there given text' place' walks start part e) (given_start text ps name place (count_of o) was.there given text' place' walks start part e);
+        there = given_end text ps name place (count_of o) was.there given text' place' walks start part e ∙ ap (start_of ps) (sym noted.more);
       }
 
   pub sofar_all : given ≡ None → OutlineOf text o
   sofar_all e ps name =
       let was = sofar ps name in
-      record { outlined = was.outlined; all = given_none text ps name place o.count was.there given text' place' walks was.outlined.within e }
+      record { outlined = was.outlined; all = given_none text ps name place (count_of o) was.there given text' place' walks was.outlined.within e }

@@ -1,6 +1,6 @@
 pub mod Slices
+pub mod Marks
 pub mod Outlines
 pub mod Dotted
 pub mod Tables
 pub mod Texts
-pub mod Marks

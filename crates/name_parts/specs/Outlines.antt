@@ -1,10 +1,14 @@
 -- The outline of the parts of a name: where each begins, and which places have words and which marks.
 use Rattle.std.specs.Prelude.{◌≡◌, ℕ, ◌+◌, ◌<◌, ◌≤◌, ◌↔◌, List, length, take, slice_index}
 use Rattle.names.specs.declared.part.Part.{Part as WalkedPart}
-use Rattle.names.specs.Names.{Part, word, dot, at, plus, bytes_of, spell, IsName}
+use Rattle.names.specs.Names.{Part, word, bytes_of, spell, IsName}
 use Rattle.names.specs.Parts.{part_of}
+use Rattle.positions.specs.declared.Positions.{Positions}
 use Rattle.positions.specs.Places.{Has}
+use Rattle.name_parts.specs.declared.mark.Mark.{Mark}
+use Rattle.name_parts.specs.declared.mark.Mark.TheVariants.{Dot, At, Plus}
 use Rattle.name_parts.specs.declared.outline.Outline.{Outline}
+use Rattle.name_parts.specs.Marks.{part_of_mark}
 use Rattle.name_parts.specs.Slices.{PartAt}
 
 -- some word is at a place
@@ -19,30 +23,37 @@ start_of ps i = length (spell (take i ps))
 abbrev pub Sees : (ℕ → Type 0) → ℕ → ℕ → Type 0
 Sees Kind count digits = (i : ℕ) → Has digits i ↔ ((i < count) × Kind i)
 
+-- how many parts an outline has
+abbrev pub count_of : Outline → ℕ
+count_of o = length o.starts.items
+
+-- the set of the places of a mark
+abbrev pub mark_places : Outline → Mark → Positions
+mark_places o Dot = o.dots
+mark_places o At = o.ats
+mark_places o Plus = o.pluses
+
 -- the outline of the first parts of a row
 pub record Outlined (ps : List Part) (o : Outline) : Type 0 where
-  pub long : length o.starts ≡ 64
-  pub within : o.count ≤ length ps
-  pub starts : (i : ℕ) → i < o.count → slice_index o.starts i ≡ start_of ps i
-  pub words : Sees (WordAt ps) o.count o.words.digits
-  pub dots : Sees (PartAt ps dot) o.count o.dots.digits
-  pub ats : Sees (PartAt ps at) o.count o.ats.digits
-  pub pluses : Sees (PartAt ps plus) o.count o.pluses.digits
+  pub within : count_of o ≤ length ps
+  pub starts : (i : ℕ) → i < count_of o → slice_index o.starts.items i ≡ start_of ps i
+  pub words : Sees (WordAt ps) (count_of o) o.words.digits
+  pub marks : (m : Mark) → Sees (PartAt ps (part_of_mark m)) (count_of o) (mark_places o m).digits
 
 -- the outline of no part
 pub record Blank (o : Outline) : Type 0 where
-  pub none : o.count ≡ 0
+  pub none : count_of o ≡ 0
   pub outlined : (ps : List Part) → Outlined ps o
 
 -- an outline, and the same with one more part, which begins at a byte
 pub record Noted (was : Outline) (start : ℕ) (part : WalkedPart) (is : Outline) : Type 0 where
-  pub more : is.count ≡ was.count + 1
-  pub outlined : (ps : List Part) → Outlined ps was → PartAt ps (part_of part) was.count → start ≡ start_of ps was.count → Outlined ps is
+  pub more : count_of is ≡ count_of was + 1
+  pub outlined : (ps : List Part) → Outlined ps was → PartAt ps (part_of part) (count_of was) → start ≡ start_of ps (count_of was) → Outlined ps is
 
 -- the outline of a whole row
 pub record Whole (ps : List Part) (o : Outline) : Type 0 where
   pub outlined : Outlined ps o
-  pub all : o.count ≡ length ps
+  pub all : count_of o ≡ length ps
 
 -- the outline of the name that a text is
 abbrev pub OutlineOf : List ℕ → Outline → Type 0

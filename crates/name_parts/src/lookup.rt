@@ -21,10 +21,11 @@ impl<'a> NameParts<'a> {
         ensures { text_of result ≡ shown name.now.text }
     {
         let outline = Outline::of(name);
+        let partial = dotted_words(outline.starts.len() + 1, outline.words, outline.dots);
         NameParts {
             text: name.as_bytes(),
             outline,
-            partial: dotted_words(outline.count + 1, outline.words, outline.dots),
+            partial,
         }
     }
 
@@ -32,7 +33,7 @@ impl<'a> NameParts<'a> {
     pub fn count(&self) -> usize
         ensures { PartsOf (text_of self.now) result }
     {
-        self.outline.count
+        self.outline.starts.len()
     }
 
     /// The places of a mark.

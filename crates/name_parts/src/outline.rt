@@ -1,17 +1,17 @@
 //! What a walk over a name notes of its parts.
 ghost use Rattle.std.specs.Prelude.{◌<◌};
 ghost use Rattle.texts.specs.Shown.{shown};
-ghost use Rattle.name_parts.specs.Outlines.{Blank, Noted, OutlineOf};
+ghost use Rattle.name_parts.specs.Outlines.{count_of, Blank, Noted, OutlineOf};
 
+use arrayvec::ArrayVec;
 use names::name::Name;
 use names::part::Part;
 use positions::{PLACES, Positions};
 
 /// The byte that each part begins at, and the places of the words and of the marks.
-#[derive(Clone, Copy)]
+#[derive(Drop)]
 pub(crate) struct Outline {
-    pub(crate) starts: [usize; PLACES],
-    pub(crate) count: usize,
+    pub(crate) starts: ArrayVec<usize, PLACES>,
     pub(crate) words: Positions,
     pub(crate) dots: Positions,
     pub(crate) ats: Positions,
@@ -25,8 +25,7 @@ impl Outline {
     {
         let nowhere = Positions::empty();
         Outline {
-            starts: [0; PLACES],
-            count: 0,
+            starts: ArrayVec::new(),
             words: nowhere,
             dots: nowhere,
             ats: nowhere,
@@ -36,18 +35,17 @@ impl Outline {
 
     // Notes one more part, which begins at this byte.
     fn note(&mut self, start: usize, part: Part<'_>)
-        requires { self.old.count < 64 }
+        requires { count_of self.old < 64 }
         ensures { Noted self.old start part.entry self.new }
     {
-        let place = self.count;
+        let place = self.starts.len();
+        self.starts.push(start);
         match part {
             Part::Word(_) => self.words = self.words.insert(place),
             Part::Dot => self.dots = self.dots.insert(place),
             Part::At => self.ats = self.ats.insert(place),
             Part::Plus => self.pluses = self.pluses.insert(place),
         }
-        self.starts[place] = start;
-        self.count = place + 1;
     }
 
     /// The outline of a name.

@@ -1,7 +1,7 @@
 //! The parts of a name, by place.
 ghost use Rattle.std.specs.Prelude.{◌≤◌};
 ghost use Rattle.names.specs.Names.{LawfulName};
-ghost use Rattle.name_parts.specs.Outlines.{OutlineOf};
+ghost use Rattle.name_parts.specs.Outlines.{count_of, OutlineOf};
 ghost use Rattle.name_parts.specs.Tables.{PartialNames};
 
 use super::outline::Outline;
@@ -13,7 +13,7 @@ pub struct NameParts<'a> {
     pub(crate) text: &'a [u8],
     pub(crate) outline: Outline,
     pub(crate) partial: Runs,
-    ghost few: { outline.count ≤ 63 },
+    ghost few: { count_of outline ≤ 63 },
     ghost lawful: { ∥ LawfulName text.now ∥₁ },
     ghost outlined: { ∥ OutlineOf text.now outline ∥₁ },
     ghost spanned: { ∥ PartialNames text.now partial ∥₁ },

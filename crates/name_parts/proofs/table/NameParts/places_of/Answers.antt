@@ -1,23 +1,12 @@
-use Rattle.std.proofs.Common.{◌≡◌, sym, subst}
+use Rattle.std.proofs.Common.{sym, subst}
 use Rattle.std.proofs.lemmas.Slice.Eq.{slice_eq-Decides}
 use Rattle.std.proofs.lemmas.Bool.Decides.{Decides-eqb}
-use Rattle.std.proofs.lemmas.Bool.{both_ways}
 use Rattle.names.specs.Names.{word}
 use Rattle.positions.specs.Places.{Has}
 use Rattle.name_parts.specs.Slices.{PartAt}
-use Rattle.name_parts.proofs.Holding.{held_words, held_inside, word_found, word_missed}
-use Rattle.name_parts.proofs.Finding.{found_none, found_hit, found_miss, found_all}
+use Rattle.name_parts.proofs.Holding.{held_words, word_found}
+use Rattle.name_parts.proofs.Finding.{found_hit, found_all}
 use Rattle.name_parts.proofs.table.NameParts.places_of.Goals as goal
-
-pub loop-i-init : goal.loop-i-init
-loop-i-init c ps name = found_none (PartAt ps (word c.args.word.now)) c.into_iter-i-iterator.result.left.digits c.empty-places.result.digits c.empty-places.ensures
-
-pub bytes_at-requires : goal.bytes_at-requires
-bytes_at-requires c =
-    let self = c.args.self.now in
-    let i = c.in-Some.i in
-    held_inside self.text.now self.outline self.outlined self.lawful i
-    (λ ps name. ((c.common-i-items.ensures i).0 (subst (λ s. Has s.digits i) c.into_iter-i-iterator.ensures.into_iter_gives ((c.loop-i.invariant ps name).among i c.in-Some.ensures.steps.first.here))).1)
 
 pub loop-i-preserved-then-eq : goal.loop-i-preserved-then-eq
 loop-i-preserved-then-eq c ps name =
@@ -31,15 +20,6 @@ loop-i-preserved-then-eq c ps name =
     found_hit (PartAt ps (word w)) c.into_iter-i-iterator.result.left.digits c.loop-i.i-iterator.left.digits c.loop-i.places.digits was i c.next.new.self.left.digits split c.insert-places.result.digits
     (word_found self.text.now self.outline self.outlined ps name i c.bytes_at.result.now w c.bytes_at.ensures has same)
     c.insert-places.ensures
-
-pub loop-i-preserved : goal.loop-i-preserved
-loop-i-preserved c ps name =
-    let self = c.args.self.now in
-    let w = c.args.word.now in
-    let i = c.in-Some.i in
-    let other : c.bytes_at.result.now ≡ w → ⊥ = λ e. both_ways c.eq.result c.if-eq.false ((slice_eq-Decides Decides-eqb c.bytes_at.result.now w c.eq.result c.eq.ensures).1 e) in
-    found_miss (PartAt ps (word w)) c.into_iter-i-iterator.result.left.digits c.loop-i.i-iterator.left.digits c.loop-i.places.digits (c.loop-i.invariant ps name) i c.next.new.self.left.digits c.in-Some.ensures.steps
-    (word_missed self.text.now self.outline self.outlined ps name i c.bytes_at.result.now w c.bytes_at.ensures other)
 
 pub returns : goal.returns
 returns c ps name i =
