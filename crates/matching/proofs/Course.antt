@@ -45,7 +45,7 @@ module _ (judge : Judge) (ps : List Part) (tree : Tree) (tail : List Sign) (clos
   next_of u [] s rest apart left e = absurd (apart (closed tail closes e))
     where
       closed : (ss : List Sign) → Closes ss → s ∷ signs_of rest ≡ ss → s ≡ close_bracket
-      closed [] c f = absurd (let z : ◌≡◌ {A = ℕ} 0 1 = cc in omega arith)
+      closed [] c f = cc
       closed (x ∷ ss) c f = let same : s ≡ x = cc in same ∙ c
   next_of u (x ∷ r) s rest apart left e = let same : x ≡ s = cc in let after : signs_of rest ≡ r ++ tail = cc in record { signs = r; left = subst (λ y. Left Ready tree u (y ∷ r)) same left; these = after }
 
@@ -54,64 +54,35 @@ module _ (judge : Judge) (ps : List Part) (tree : Tree) (tail : List Sign) (clos
     next s apart e = next_of course.level course.signs s rest apart course.left (sym (ap signs_of e) ∙ course.these)
 
     module _ (at' : ℕ) (placed : Placed text at' rest) (reading' : Reading) where
+      goes_on : (u : Level) (signs : List Sign) → Left Ready tree u signs → signs_of rest ≡ signs ++ tail → Holds ps (GroupOf (table_of judge)) starts reading' u → Course at' reading'
+      goes_on u signs left these holds = record { level = u; signs = signs; left = left; rest = rest; placed = placed; these = these; holds = holds }
+
       -- an atom
       pub course_atom : (a : Atom) (step : Step) → course.rest ≡ (place, atom a) ∷ rest → StepMeans ps (AtomDerives exact a) step → Pushed reading step reading' → Course at' reading'
       course_atom a step e means p =
-          let n = next (atom a) (λ f. let z : ◌≡◌ {A = ℕ} 0 1 = cc in omega arith) e in
-          record {
-            level = put course.level (plain a);
-            signs = n.signs;
-            left = left_atom n.left;
-            rest = rest;
-            placed = placed;
-            these = n.these;
-            holds = holds_put ps (GroupOf (table_of judge)) starts reading reading' step p course.level (plain a) course.holds (record { counted = means.counted; ends = λ i j. (λ s. span_plain.1 ((means.ends i j).0 s), λ s. (means.ends i j).1 (span_plain.0 s)) });
-          }
+          let n = next (atom a) (λ f. cc) e in
+          goes_on (put course.level (plain a)) n.signs (left_atom n.left) n.these (holds_put ps (GroupOf (table_of judge)) starts reading reading' step p course.level (plain a) course.holds (record { counted = means.counted; ends = λ i j. (λ s. span_plain.1 ((means.ends i j).0 s), λ s. (means.ends i j).1 (span_plain.0 s)) }))
 
       -- a reference to a group
       pub course_group : (g : List ℕ) (step : Step) → course.rest ≡ (place, group g) ∷ rest → (Ready g → StepMeans ps (ItemDerives exact (GroupOf (table_of judge)) (named g)) step) → Pushed reading step reading' → Course at' reading'
       course_group g step e means p =
-          let n = next (group g) (λ f. let z : ◌≡◌ {A = ℕ} 0 1 = cc in omega arith) e in
+          let n = next (group g) (λ f. cc) e in
           let (ready, left) = left_group n.left in
-          record {
-            level = put course.level (named g);
-            signs = n.signs;
-            left = left;
-            rest = rest;
-            placed = placed;
-            these = n.these;
-            holds = holds_put ps (GroupOf (table_of judge)) starts reading reading' step p course.level (named g) course.holds (means ready);
-          }
+          goes_on (put course.level (named g)) n.signs left n.these (holds_put ps (GroupOf (table_of judge)) starts reading reading' step p course.level (named g) course.holds (means ready))
 
       -- a star
       pub course_star : course.rest ≡ (place, star) ∷ rest → Repeated reading (length ps + 1) reading' → Course at' reading'
       course_star e r =
-          let n = next star (λ f. let z : ◌≡◌ {A = ℕ} 0 1 = cc in omega arith) e in
+          let n = next star (λ f. cc) e in
           let (a, (is, left)) = left_star n.left in
-          record {
-            level = full (star_alts a);
-            signs = n.signs;
-            left = left;
-            rest = rest;
-            placed = placed;
-            these = n.these;
-            holds = holds_star ps (GroupOf (table_of judge)) starts reading reading' r a (subst (Holds ps (GroupOf (table_of judge)) starts reading) is course.holds);
-          }
+          goes_on (full (star_alts a)) n.signs left n.these (holds_star ps (GroupOf (table_of judge)) starts reading reading' r a (subst (Holds ps (GroupOf (table_of judge)) starts reading) is course.holds))
 
       -- a bar
       pub course_bar : course.rest ≡ (place, bar) ∷ rest → Barred reading reading' → Course at' reading'
       course_bar e b =
-          let n = next bar (λ f. let z : ◌≡◌ {A = ℕ} 0 1 = cc in omega arith) e in
+          let n = next bar (λ f. cc) e in
           let (a, (is, left)) = left_bar n.left in
-          record {
-            level = barred a;
-            signs = n.signs;
-            left = left;
-            rest = rest;
-            placed = placed;
-            these = n.these;
-            holds = holds_bar ps (GroupOf (table_of judge)) starts reading reading' a b (subst (Holds ps (GroupOf (table_of judge)) starts reading) is course.holds);
-          }
+          goes_on (barred a) n.signs left n.these (holds_bar ps (GroupOf (table_of judge)) starts reading reading' a b (subst (Holds ps (GroupOf (table_of judge)) starts reading) is course.holds))
 
     -- a bracket: what is judged within it
     pub record Inside : Type 0 where
@@ -123,7 +94,7 @@ module _ (judge : Judge) (ps : List Part) (tree : Tree) (tail : List Sign) (clos
 
     pub course_inside : course.rest ≡ (place, open_bracket) ∷ rest → Inside
     course_inside e =
-        let n = next open_bracket (λ f. let z : ◌≡◌ {A = ℕ} 0 1 = cc in omega arith) e in
+        let n = next open_bracket (λ f. cc) e in
         let b = left_open n.left in
         record { alts = b.inside; beyond = b.beyond; ready = b.ready; these = n.these ∙ ap (λ ss. ss ++ tail) b.signs ∙ append_assoc (alts_signs b.inside) (close_bracket ∷ b.beyond) tail; left = b.left }
 
@@ -168,4 +139,4 @@ module _ (judge : Judge) (ps : List Part) (tree : Tree) (tail : List Sign) (clos
       where
         ending : (signs : List Sign) → Left Ready tree course.level signs → [] ≡ signs ++ tail → Judged judge ps tree starts runs tail text at'
         ending [] left g = record { means = means_end reading runs course.level left course.holds f; rest = []; placed = placed; signs = ap after g }
-        ending (x ∷ r) left g = absurd (let z : ◌≡◌ {A = ℕ} 0 1 = cc in omega arith)
+        ending (x ∷ r) left g = cc

@@ -1,14 +1,14 @@
 -- What is known of an opened list. It is held as mere statements, and each of them is decided.
 use Rattle.std.proofs.Common.{◌≡◌, ℕ, zero, suc, ◌+◌, ◌<◌, List, [], ◌∷◌, length, get_or, Some, None, Option, sym, refl, ap, ◌∙◌, subst, inl, inr, ⊎_elim, arith}
-use mathlib.Core.Logic.{∥∥₁_map}
-use borrow.Author.Tests.{clash}
+use Rattle.std.specs.Str.{bytes_eq}
 use Rattle.std.proofs.lemmas.Slice.Eq.{bytes_eq-Decides}
 use Rattle.std.proofs.lemmas.Bool.{cases_Bool, cases_eq, cases_lt}
 use Rattle.std.specs.List.{AllByRecursion}
 use Rattle.positions.proofs.Digits.{has_or_not}
 use Rattle.links.specs.declared.links.Links.{Links}
 use Rattle.links.specs.Links.{Linked}
-use Rattle.names.proofs.Deciding.{Decided, from_mere}
+use Rattle.names.proofs.Deciding.{Decided}
+use Rattle.name_parts.proofs.Mere.{mere_out, decide_lt, decide_true, decide_pair, decide_as}
 use Rattle.lists.specs.declared.list.AccessList.{AccessList}
 use Rattle.lists.specs.Texts.{LawfulList}
 use Rattle.lists.proofs.Deciding.{lawful_list}
@@ -82,15 +82,12 @@ tells_on table leads tells i m j a b =
     (tells i j).1 (lt, (lt', record { by = one.by; names = one.names; leads = leads_both one.leads (on two.names two.leads) }))
 
 -- each kind of statement is decided
-decide_below : (m n : ℕ) → Decided (m < n)
-decide_below m n = ⊎_elim (λ lt. inl lt) (λ ge. inr (λ lt. omega arith)) (cases_lt m n)
-
 decide_bytes : (a b : List ℕ) → Decided (a ≡ b)
-decide_bytes a b = ⊎_elim (λ t. inl ((bytes_eq-Decides a b).0 t)) (λ f. inr (λ e. clash (sym f ∙ (bytes_eq-Decides a b).1 e))) (cases_Bool _)
+decide_bytes a b = decide_as (decide_true (bytes_eq a b)) (bytes_eq-Decides a b).0 (bytes_eq-Decides a b).1
 
 decide_text : (o : Option (List ℕ)) (text : List ℕ) → Decided (o ≡ Some text)
-decide_text None text = inr (λ e. let z : ◌≡◌ {A = ℕ} 0 1 = cc in omega arith)
-decide_text (Some s) text = ⊎_elim (λ e. inl (ap Some e)) (λ ne. inr (λ e. ne (cc))) (decide_bytes s text)
+decide_text None text = inr (λ e. cc)
+decide_text (Some s) text = decide_as (decide_bytes s text) (ap Some) (λ e. cc)
 
 decide_known : (gs : List Name) (g : Name) → Decided (Known gs g)
 decide_known [] g = inr (λ k. omega (arith, k.1.below))
@@ -101,18 +98,11 @@ decide_known (h ∷ gs) g =
     (decide_bytes h g)
 
 decide_linked : (leads : Links) (i j : ℕ) → Decided (Linked leads i j)
-decide_linked leads i j =
-    ⊎_elim
-    (λ lt. ⊎_elim (λ h. inl (lt, h)) (λ never. inr (λ l. never l.1)) (has_or_not _ j))
-    (λ never. inr (λ l. never l.0))
-    (decide_below i leads.len)
+decide_linked leads i j = decide_pair (decide_lt i leads.len) (has_or_not _ j)
 
 -- what is decided may be taken from mere statements that it follows from
-by_one : {A : Type 0} (P : Type 0) → Decided P → ∥ A ∥₁ → (A → P) → P
-by_one P d a f = from_mere P d (∥∥₁_map a f)
-
-by_both : {A B : Type 0} (P : Type 0) → Decided P → ∥ A ∥₁ → ∥ B ∥₁ → (A → B → P) → P
-by_both P d a b f = by_one P d a (λ x. by_one P d b (f x))
+by_both : {A B P : Type 0} → ∥ A ∥₁ → ∥ B ∥₁ → Decided P → (A → B → P) → P
+by_both a b d f = mere_out a d (λ x. mere_out b d (f x))
 
 -- the texts of lists that are held are lawful
 texts_lawful : (gs : List Name) (ls : List AccessList) (k : ℕ) → k < length (pairs gs (texts_in ls)) → LawfulList (get_or (texts_of (pairs gs (texts_in ls))) k [])
@@ -137,18 +127,18 @@ module _ (o : Opened) (leads : Links) (tells : ∥ Tells (groups_of o) leads ∥
   grounds =
       let table = groups_of o in
       record {
-        texts = λ k lt. by_one _ (decide_text (text_of table (get_or (names_of table) k [])) (get_or (texts_of table) k [])) o.whole (λ w. has_text w k lt);
+        texts = λ k lt. mere_out o.whole (decide_text (text_of table (get_or (names_of table) k [])) (get_or (texts_of table) k [])) (λ w. has_text w k lt);
         lawful = texts_lawful (known o.names) o.texts;
-        once = λ g j k a b. by_one _ (cases_eq j k) o.whole (λ w. read_distinct w.read g j k a b);
-        list_names = λ rs g f n. by_one _ (decide_known (names_of table) g) o.whole (λ w. list_known w f n);
+        once = λ g j k a b. mere_out o.whole (cases_eq j k) (λ w. read_distinct w.read g j k a b);
+        list_names = λ rs g f n. mere_out o.whole (decide_known (names_of table) g) (λ w. list_known w f n);
         text_names = λ k lt rs g f n.
-            let (m, is) = by_one _ (decide_known (names_of table) g) o.whole (λ w. text_known w k lt f n) in
-            (m, (is, by_both _ (decide_linked leads k m) o.whole tells (λ w t. text_linked w leads t k lt f n m is)));
-        inside = λ i j l. by_one _ (decide_below j (length table)) tells (λ t. ((t i j).0 l).1.0);
-        onward = λ i m j a b. by_one _ (decide_linked leads i j) tells (λ t. tells_on table leads t i m j a b);
-        apart = λ k l. by_both _ (inr (λ x. x)) o.whole tells (λ w t. never_back w leads t k l);
+            let (m, is) = mere_out o.whole (decide_known (names_of table) g) (λ w. text_known w k lt f n) in
+            (m, (is, by_both o.whole tells (decide_linked leads k m) (λ w t. text_linked w leads t k lt f n m is)));
+        inside = λ i j l. mere_out tells (decide_lt j (length table)) (λ t. ((t i j).0 l).1.0);
+        onward = λ i m j a b. mere_out tells (decide_linked leads i j) (λ t. tells_on table leads t i m j a b);
+        apart = λ k l. by_both o.whole tells (inr (λ x. x)) (λ w t. never_back w leads t k l);
       }
 
 -- links that tell which group leads to which are the same
 pub same_links : (table : Table) (a b : Links) → ∥ Tells table a ∥₁ → ∥ Tells table b ∥₁ → (i j : ℕ) → Linked a i j → Linked b i j
-same_links table a b s t i j l = by_both _ (decide_linked b i j) s t (λ x y. (y i j).1 ((x i j).0 l))
+same_links table a b s t i j l = by_both s t (decide_linked b i j) (λ x y. (y i j).1 ((x i j).0 l))

@@ -19,7 +19,7 @@ use Rattle.matching.specs.declared.step.Step.{Step}
 use Rattle.matching.specs.declared.step.Step.TheVariants.{Runs as Each}
 use Rattle.matching.specs.declared.reading.Reading.{Reading}
 use Rattle.matching.specs.Readings.{Begins, Pushed, Repeated, Finished, Barred}
-use Rattle.matching.specs.Judging.{table_of, StepMeans, GroupReady, TreeReady, Closes, Judged, Judges}
+use Rattle.matching.specs.Judging.{ForParts, table_of, StepMeans, GroupReady, TreeReady, Closes, Judged, Judges}
 use Rattle.matching.proofs.Course.{Course, course_start, course_atom, course_group, course_star, course_bar, course_inside, course_bracket, course_close, course_end}
 
 -- a token that is no bracket, star, bar or group is an atom
@@ -55,7 +55,7 @@ module _ (judge : Judge) (text : List ℕ) (start starts : ℕ) where
   -- whatever the name's parts, the table, the tree and what follows it are: the course of the judgement from the start
   abbrev pub Courses : ℕ → Reading → Type 0
   Courses at reading =
-      (ps : List Part) → IsName (text_of judge.parts) ps → (tree : Tree) → TreeReady judge ps tree → (tail : List Sign) (closes : Closes tail) (qs : List (ℕ × Sign)) → Placed text start qs → signs_of qs ≡ tree_signs tree ++ tail → Course judge ps tree tail closes text starts at reading
+      ForParts judge (λ ps. (tree : Tree) → TreeReady judge ps tree → (tail : List Sign) (closes : Closes tail) (qs : List (ℕ × Sign)) → Placed text start qs → signs_of qs ≡ tree_signs tree ++ tail → Course judge ps tree tail closes text starts at reading)
 
   -- nothing has been read
   pub courses_start : (reading : Reading) → Begins starts reading → Courses start reading
@@ -68,7 +68,7 @@ module _ (judge : Judge) (text : List ℕ) (start starts : ℕ) where
       tokens_are : {s : Sign} {rest left : List (ℕ × Sign)} → left ≡ (lexeme.place, sign lexeme.token) ∷ rest → sign lexeme.token ≡ s → left ≡ (lexeme.place, s) ∷ rest
       tokens_are {rest = rest} e f = e ∙ ap (λ s. (lexeme.place, s) ∷ rest) f
 
-      pub courses_atom : (a : Atom) (step : Step) (reading' : Reading) → sign lexeme.token ≡ atom a → ((ps : List Part) → IsName (text_of judge.parts) ps → StepMeans ps (AtomDerives exact a) step) → Pushed reading step reading' → Courses at' reading'
+      pub courses_atom : (a : Atom) (step : Step) (reading' : Reading) → sign lexeme.token ≡ atom a → ForParts judge (λ ps. StepMeans ps (AtomDerives exact a) step) → Pushed reading step reading' → Courses at' reading'
       courses_atom a step reading' f means p ps is tree ready tail closes qs placed these =
           let course = before ps is tree ready tail closes qs placed these in
           let (rest, (e, there)) = walks.token course.rest course.placed in
@@ -80,7 +80,7 @@ module _ (judge : Judge) (text : List ℕ) (start starts : ℕ) where
           let (rest, (e, there)) = walks.token course.rest course.placed in
           course_group judge ps tree tail closes text starts at reading course lexeme.place rest at' there reading' g step (tokens_are e f) (means ps) p
 
-      pub courses_star : (places : ℕ) (reading' : Reading) → sign lexeme.token ≡ Trees.star → ((ps : List Part) → IsName (text_of judge.parts) ps → places ≡ length ps + 1) → Repeated reading places reading' → Courses at' reading'
+      pub courses_star : (places : ℕ) (reading' : Reading) → sign lexeme.token ≡ Trees.star → ForParts judge (λ ps. places ≡ length ps + 1) → Repeated reading places reading' → Courses at' reading'
       courses_star places reading' f whole r ps is tree ready tail closes qs placed these =
           let course = before ps is tree ready tail closes qs placed these in
           let (rest, (e, there)) = walks.token course.rest course.placed in
@@ -92,7 +92,7 @@ module _ (judge : Judge) (text : List ℕ) (start starts : ℕ) where
           let (rest, (e, there)) = walks.token course.rest course.placed in
           course_bar judge ps tree tail closes text starts at reading course lexeme.place rest at' there reading' (tokens_are e f) b
 
-      pub courses_bracket : (places at'' : ℕ) (runs : Runs) (reading' : Reading) → sign lexeme.token ≡ Trees.open_bracket → ((ps : List Part) → IsName (text_of judge.parts) ps → places ≡ length ps + 1) → Judges judge text at' at'' places runs → Pushed reading (Each runs) reading' → Courses at'' reading'
+      pub courses_bracket : (places at'' : ℕ) (runs : Runs) (reading' : Reading) → sign lexeme.token ≡ Trees.open_bracket → ForParts judge (λ ps. places ≡ length ps + 1) → Judges judge text at' at'' places runs → Pushed reading (Each runs) reading' → Courses at'' reading'
       courses_bracket places at'' runs reading' f whole judged p ps is tree ready tail closes qs placed these =
           let course = before ps is tree ready tail closes qs placed these in
           let (rest, (e, there)) = walks.token course.rest course.placed in

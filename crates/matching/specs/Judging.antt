@@ -5,7 +5,7 @@ use Rattle.runs.specs.declared.relation.Runs.{Runs}
 use Rattle.runs.specs.Runs.{Ends}
 use Rattle.names.specs.Names.{Part, IsName}
 use Rattle.lists.specs.Trees.{Sign, close_bracket, Tree}
-use Rattle.lists.specs.Texts.{tree_signs}
+use Rattle.lists.specs.Texts.{Reads, tree_signs}
 use Rattle.lists.specs.Placed.{Placed, signs_of}
 use Rattle.books.specs.Tables.{Table}
 use Rattle.name_parts.specs.Slices.{Spans}
@@ -29,6 +29,10 @@ pub record StepMeans (ps : List Part) (Run : List Part → Type 0) (step : Step)
   pub counted : StepCounted step (length ps + 1)
   pub ends : (i j : ℕ) → StepEnds step i j ↔ Spans ps Run i j
 
+-- what holds of the row of parts that the name has
+abbrev pub ForParts : Judge → (List Part → Type 0) → Type 0
+ForParts judge Fact = (ps : List Part) → IsName (text_of judge.parts) ps → Fact ps
+
 -- the groups of the opened list, with their texts
 abbrev pub table_of : Judge → Table
 table_of judge = groups_of judge.opened.now
@@ -49,6 +53,10 @@ pub record GroupReady (judge : Judge) (ps : List Part) (g : List ℕ) : Type 0 w
 abbrev pub TreeReady : Judge → List Part → Tree → Type 0
 TreeReady judge ps tree = AllByRecursion (GroupReady judge ps) (tree_groups tree)
 
+-- the runs are those of the tree of a text, where every group that the tree names is ready
+abbrev pub JudgesText : Judge → List ℕ → ℕ → Runs → Type 0
+JudgesText judge text starts runs = ForParts judge (λ ps. (tree : Tree) → Reads text tree → TreeReady judge ps tree → Means ps (Derived (table_of judge) tree) starts runs)
+
 -- what follows a list: nothing, or the bracket that closes it
 abbrev pub Closes : List Sign → Type 0
 Closes [] = Unit {0}
@@ -68,4 +76,4 @@ pub record Judged (judge : Judge) (ps : List Part) (tree : Tree) (starts : ℕ) 
 -- the tokens from a place on are those of a tree and of what follows it, and the tree is judged from one place to another
 abbrev pub Judges : Judge → List ℕ → ℕ → ℕ → ℕ → Runs → Type 0
 Judges judge text at at' starts runs =
-    (ps : List Part) → IsName (text_of judge.parts) ps → (tree : Tree) → TreeReady judge ps tree → (tail : List Sign) → Closes tail → (qs : List (ℕ × Sign)) → Placed text at qs → signs_of qs ≡ tree_signs tree ++ tail → Judged judge ps tree starts runs tail text at'
+    ForParts judge (λ ps. (tree : Tree) → TreeReady judge ps tree → (tail : List Sign) → Closes tail → (qs : List (ℕ × Sign)) → Placed text at qs → signs_of qs ≡ tree_signs tree ++ tail → Judged judge ps tree starts runs tail text at')

@@ -2,13 +2,13 @@
 use Rattle.std.specs.Prelude.{◌≡◌, ℕ, ◌+◌, ◌<◌, List, [], length, slice_index_or}
 use Rattle.positions.specs.Places.{Has}
 use Rattle.runs.specs.declared.relation.Runs.{Runs}
-use Rattle.names.specs.Names.{Part, IsName}
+use Rattle.names.specs.Names.{Part}
 use Rattle.lists.specs.Trees.{Tree}
 use Rattle.lists.specs.Texts.{Reads}
 use Rattle.name_parts.specs.Texts.{text_of}
 use Rattle.openings.specs.Opened.{texts_of}
 use Rattle.matching.specs.declared.held.Judge.{Judge}
-use Rattle.matching.specs.Judging.{table_of, Means, Derived}
+use Rattle.matching.specs.Judging.{ForParts, table_of, Means, Derived}
 
 -- the judge holds what a group derives, by the tree that its text reads as
 abbrev pub Held : Judge → List Part → ℕ → Type 0
@@ -27,4 +27,4 @@ pub record Stays (before after : Judge) : Type 0 where
 pub record Goes (before after : Judge) : Type 0 where
   pub stays : Stays before after
   pub kept : (k : ℕ) → Has before.judged.digits k → Has after.judged.digits k
-  pub held : (ps : List Part) → IsName (text_of before.parts) ps → AllHeld before ps → AllHeld after ps
+  pub held : ForParts before (λ ps. AllHeld before ps → AllHeld after ps)

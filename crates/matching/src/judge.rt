@@ -2,13 +2,11 @@
 ghost use Rattle.std.specs.Prelude.{◌≡◌, ℕ, ◌+◌, ◌<◌, ◌≤◌, ◌↔◌, List, length};
 ghost use Rattle.positions.specs.Places.{Has};
 ghost use Rattle.texts.specs.Shown.{shown};
-ghost use Rattle.names.specs.Names.{Part, IsName};
-ghost use Rattle.lists.specs.Trees.{Atom, atom, named, Tree};
-ghost use Rattle.lists.specs.Texts.{Reads};
+ghost use Rattle.names.specs.Names.{Part};
+ghost use Rattle.lists.specs.Trees.{Atom, atom, named};
 ghost use Rattle.lists.specs.Lexemes.{sign};
-ghost use Rattle.name_parts.specs.Texts.{text_of};
 ghost use Rattle.derivations.specs.Derives.{AtomDerives, ItemDerives, exact, GroupOf};
-ghost use Rattle.matching.specs.Judging.{table_of, Means, StepMeans, Derived, GroupReady, TreeReady, Judges};
+ghost use Rattle.matching.specs.Judging.{ForParts, table_of, StepMeans, GroupReady, JudgesText, Judges};
 
 use super::held::Judge;
 use super::places::FirstPlaces;
@@ -24,7 +22,7 @@ use runs::Runs;
 impl Judge<'_, '_> {
     /// The places of the name: before each part, and after the last.
     pub(crate) fn places(&self) -> FirstPlaces
-        ensures { (ps : List Part) → IsName (text_of self.now.parts) ps → result.count ≡ length ps + 1 }
+        ensures { ForParts self.now (λ ps. result.count ≡ length ps + 1) }
     {
         FirstPlaces {
             count: self.parts.count() + 1,
@@ -33,14 +31,14 @@ impl Judge<'_, '_> {
 
     // All the places of the name.
     fn everywhere(&self) -> Positions
-        ensures { (ps : List Part) → IsName (text_of self.now.parts) ps → (i : ℕ) → Has result.digits i ↔ (i < length ps + 1) }
+        ensures { ForParts self.now (λ ps. (i : ℕ) → Has result.digits i ↔ (i < length ps + 1)) }
     {
         self.places().runs().all()
     }
 
     // The step of an atom.
     fn atom(&self, token: Token<'_>) -> Step
-        ensures { (ps : List Part) → IsName (text_of self.now.parts) ps → (a : Atom) → sign token.entry ≡ atom a → StepMeans ps (AtomDerives exact a) result }
+        ensures { ForParts self.now (λ ps. (a : Atom) → sign token.entry ≡ atom a → StepMeans ps (AtomDerives exact a) result) }
     {
         match token {
             Token::Word(bytes) => Step::Part(self.parts.places_of(bytes, self.everywhere())),
@@ -86,7 +84,7 @@ impl Judge<'_, '_> {
 
     /// Judges a whole text from the first places.
     pub(crate) fn judge_text(&self, list: &AccessList, starts: FirstPlaces) -> Runs
-        ensures { (ps : List Part) → IsName (text_of self.now.parts) ps → (tree : Tree) → Reads (shown list.now.text) tree → TreeReady self.now ps tree → Means ps (Derived (table_of self.now) tree) starts.count result }
+        ensures { JudgesText self.now (shown list.now.text) starts.count result }
     {
         self.judge(&mut list.tokens(), starts)
     }

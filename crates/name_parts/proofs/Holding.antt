@@ -1,6 +1,9 @@
 -- What is held of a name holds of its row of parts.
 use Rattle.std.proofs.Common.{◌≡◌, ℕ, ◌+◌, ◌<◌, ◌≤◌, min, ◌⊎◌, ◌↔◌, List, length, get_or, sym, ◌∙◌, subst, arith}
+use mathlib.Core.Logic.{∥∥₁_elim}
+use native.Mathlib.Nat.{ℕ_set}
 use Rattle.names.specs.Names.{Part, word, dot, IsName, LawfulName}
+use Rattle.names.proofs.Deciding.{Decided, lawful_name}
 use Rattle.names.proofs.Places.{alternates}
 use Rattle.positions.specs.Places.{Has}
 use Rattle.positions.proofs.Digits.{has_or_not}
@@ -14,7 +17,7 @@ use Rattle.name_parts.specs.Slices.{PartAt}
 use Rattle.name_parts.specs.Outlines.{WordAt, start_of, Sees, count_of, mark_places, Outlined, OutlineOf, EndOf, BytesAt}
 use Rattle.name_parts.specs.Dotted.{DottedWords}
 use Rattle.name_parts.specs.Tables.{PartialNames}
-use Rattle.name_parts.proofs.Mere.{mere_out, mere_eq, mere_lt, mere_le}
+use Rattle.name_parts.proofs.Mere.{mere_out}
 use Rattle.name_parts.proofs.Standing.{part_here, part_or_not, word_or_not}
 use Rattle.name_parts.proofs.Spelling.{start_more, start_within}
 use Rattle.name_parts.proofs.Deciding.{spans_or_not, ends_or_not}
@@ -22,7 +25,7 @@ use Rattle.name_parts.proofs.Joining.{lawful_word, dotted_spans}
 
 -- a name has at most 63 parts
 pub held_few : (text : List ℕ) (o : Outline) → ∥ LawfulName text ∥₁ → OutlineOf text o → (count_of o) ≤ 63
-held_few text o lawful outline = mere_le lawful (count_of o) 63 (λ (ps, name). omega (arith, (outline ps name).all, name.few))
+held_few text o lawful outline = let (ps, name) = lawful_name text lawful in omega (arith, (outline ps name).all, name.few)
 
 -- the runs of words joined by dots are the partial names
 pub held_partial : (text : List ℕ) (o : Outline) (r : Runs) → OutlineOf text o → r.count ≡ min ((count_of o) + 1) 64 → ((i j : ℕ) → Ends r i j ↔ DottedWords (min ((count_of o) + 1) 64) o.words.digits o.dots.digits i j) → PartialNames text r
@@ -36,20 +39,20 @@ held_partial text o r outline counted ends ps name =
 -- what is merely known of partial names is known
 pub mere_partial : (text : List ℕ) (r : Runs) → ∥ PartialNames text r ∥₁ → PartialNames text r
 mere_partial text r mere ps name = record {
-  counted = mere_eq mere r.count (length ps + 1) (λ f. (f ps name).counted);
+  counted = ∥∥₁_elim mere (ℕ_set r.count (length ps + 1)) (λ f. (f ps name).counted);
   ends = λ i j. (λ e. mere_out mere (spans_or_not ps i j) (λ f. ((f ps name).ends i j).0 e), λ s. mere_out mere (ends_or_not r i j) (λ f. ((f ps name).ends i j).1 s));
 }
 
 module _ (text : List ℕ) (o : Outline) (mere : ∥ OutlineOf text o ∥₁) where
   module _ (ps : List Part) (name : IsName text ps) where
     pub held_count : (count_of o) ≡ length ps
-    held_count = mere_eq mere (count_of o) (length ps) (λ f. (f ps name).all)
+    held_count = ∥∥₁_elim mere (ℕ_set (count_of o) (length ps)) (λ f. (f ps name).all)
 
     pub held_start : (i : ℕ) → i < (count_of o) → get_or o.starts.items i 0 ≡ start_of ps i
-    held_start i lt = mere_eq mere (get_or o.starts.items i 0) (start_of ps i) (λ f. (f ps name).outlined.starts i lt)
+    held_start i lt = ∥∥₁_elim mere (ℕ_set (get_or o.starts.items i 0) (start_of ps i)) (λ f. (f ps name).outlined.starts i lt)
 
     -- the places of a kind
-    held : (Kind : ℕ → Type 0) (d : ℕ) → (Outlined ps o → Sees Kind (count_of o) d) → ((i : ℕ) → Kind i ⊎ (Kind i → ⊥)) → ((i : ℕ) → Kind i → i < length ps) → (i : ℕ) → Has d i ↔ Kind i
+    held : (Kind : ℕ → Type 0) (d : ℕ) → (Outlined ps o → Sees Kind (count_of o) d) → ((i : ℕ) → Decided (Kind i)) → ((i : ℕ) → Kind i → i < length ps) → (i : ℕ) → Has d i ↔ Kind i
     held Kind d sees decided inside i = (
       λ h. mere_out mere (decided i) (λ f. ((sees (f ps name).outlined i).0 h).1),
       λ k. mere_out mere (has_or_not d i) (λ f. (sees (f ps name).outlined i).1 (omega (arith, inside i k, held_count), k)),
@@ -64,18 +67,18 @@ module _ (text : List ℕ) (o : Outline) (mere : ∥ OutlineOf text o ∥₁) wh
   module _ (lawful : ∥ LawfulName text ∥₁) where
     -- a word is at one of the places
     pub held_inside : (i : ℕ) → ((ps : List Part) → IsName text ps → Has o.words.digits i) → i < (count_of o)
-    held_inside i has = mere_lt lawful i (count_of o) (λ (ps, name). omega (arith, ((held_words ps name i).0 (has ps name)).1.inside, held_count ps name))
+    held_inside i has = let (ps, name) = lawful_name text lawful in omega (arith, ((held_words ps name i).0 (has ps name)).1.inside, held_count ps name)
 
     -- a part begins before it ends, within the text
     module _ (i end : ℕ) (lt : i < (count_of o)) (ends : EndOf text i end) where
       pub held_forward : get_or o.starts.items i 0 ≤ end
       held_forward =
-          mere_le lawful (get_or o.starts.items i 0) end (λ (ps, name).
+          let (ps, name) = lawful_name text lawful in
           let here = part_here ps i dot (omega (arith, held_count ps name)) in
-          omega (arith, held_start ps name i lt, ends ps name, start_more ps (get_or ps i dot) i here))
+          omega (arith, held_start ps name i lt, ends ps name, start_more ps (get_or ps i dot) i here)
 
       pub held_within : end ≤ length text
-      held_within = mere_le lawful end (length text) (λ (ps, name). omega (arith, ends ps name, start_within ps text name (i + 1)))
+      held_within = let (ps, name) = lawful_name text lawful in omega (arith, ends ps name, start_within ps text name (i + 1))
 
   -- at a place of a word, the part has these bytes if and only if it is this word
   module _ (ps : List Part) (name : IsName text ps) (i : ℕ) (bytes w : List ℕ) (here : BytesAt text i bytes) where

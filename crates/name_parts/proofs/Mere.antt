@@ -1,18 +1,27 @@
--- What follows from a mere statement: whatever is decided.
-use Rattle.std.proofs.Common.{◌≡◌, ℕ, ◌<◌, ◌≤◌, ◌⊎◌, inl, inr, ⊎_elim, arith}
-use mathlib.Core.Logic.{∥∥₁_elim}
-use mathlib.Core.HLevel.{⊥_prop}
-use Rattle.std.proofs.lemmas.Bool.{cases_eq, cases_lt}
+-- What is decided, and what follows from a mere statement: whatever is decided.
+use Rattle.std.proofs.Common.{◌≡◌, ℕ, ◌<◌, ◌≤◌, Bool, true, inl, inr, ⊎_elim, arith}
+use mathlib.Core.Logic.{∥∥₁_map}
+use Rattle.std.proofs.lemmas.Bool.{cases_lt, cases_Bool, both_ways}
+use Rattle.names.proofs.Deciding.{Decided, from_mere}
 
-module _ {A : Type 0} (mere : ∥ A ∥₁) where
-  pub mere_out : {B : Type 0} → B ⊎ (B → ⊥) → (A → B) → B
-  mere_out decided f = ⊎_elim (λ b. b) (λ no. absurd (∥∥₁_elim mere ⊥_prop (λ a. no (f a)))) decided
+pub mere_out : {A B : Type 0} → ∥ A ∥₁ → Decided B → (A → B) → B
+mere_out mere decided f = from_mere _ decided (∥∥₁_map mere f)
 
-  pub mere_eq : (m n : ℕ) → (A → m ≡ n) → m ≡ n
-  mere_eq m n = mere_out (cases_eq m n)
+pub decide_lt : (m n : ℕ) → Decided (m < n)
+decide_lt m n = ⊎_elim inl (λ le. inr (λ lt. omega arith)) (cases_lt m n)
 
-  pub mere_lt : (m n : ℕ) → (A → m < n) → m < n
-  mere_lt m n = mere_out (⊎_elim inl (λ le. inr (λ lt. omega arith)) (cases_lt m n))
+pub decide_le : (m n : ℕ) → Decided (m ≤ n)
+decide_le m n = ⊎_elim (λ lt. inr (λ le. omega arith)) inl (cases_lt n m)
 
-  pub mere_le : (m n : ℕ) → (A → m ≤ n) → m ≤ n
-  mere_le m n = mere_out (⊎_elim (λ lt. inr (λ le. omega arith)) inl (cases_lt n m))
+pub decide_true : (b : Bool) → Decided (b ≡ true)
+decide_true b = ⊎_elim inl (λ f. inr (both_ways b f)) (cases_Bool b)
+
+pub decide_pair : {A B : Type 0} → Decided A → Decided B → Decided (A × B)
+decide_pair (inl a) (inl b) = inl (a, b)
+decide_pair (inl a) (inr never) = inr (λ h. never h.1)
+decide_pair (inr never) b = inr (λ h. never h.0)
+
+-- a statement that follows from one that is decided, and the other way round
+pub decide_as : {A B : Type 0} → Decided A → (A → B) → (B → A) → Decided B
+decide_as (inl a) on back = inl (on a)
+decide_as (inr never) on back = inr (λ b. never (back b))

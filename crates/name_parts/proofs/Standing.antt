@@ -5,8 +5,10 @@ use Rattle.std.proofs.lemmas.List.{get_or_default}
 use Rattle.std.proofs.lemmas.Bool.{cases_lt, cases_Bool, both_ways}
 use Rattle.std.specs.Str.{bytes_eq}
 use Rattle.names.specs.Names.{Part, word, dot, at, plus}
+use Rattle.names.proofs.Deciding.{Decided}
 use Rattle.name_parts.specs.Slices.{PartAt}
 use Rattle.name_parts.specs.Outlines.{WordAt}
+use Rattle.name_parts.proofs.Mere.{decide_lt, decide_true, decide_pair, decide_as}
 
 -- a part as a list of numbers, the first of which tells its kind
 abbrev code : Part → List ℕ
@@ -33,13 +35,10 @@ decode_code plus = refl
 abbrev pub kind : Part → ℕ
 kind p = get_or (code p) 0 0
 
-same_or_not : (p q : Part) → (p ≡ q) ⊎ (p ≡ q → ⊥)
+same_or_not : (p q : Part) → Decided (p ≡ q)
 same_or_not p q =
     let same = bytes_eq-Decides (code p) (code q) in
-    ⊎_elim
-    (λ t. inl (sym (decode_code p) ∙ ap decode (same.0 t) ∙ decode_code q))
-    (λ f. inr (λ e. both_ways (bytes_eq (code p) (code q)) f (same.1 (ap code e))))
-    (cases_Bool (bytes_eq (code p) (code q)))
+    decide_as (decide_true (bytes_eq (code p) (code q))) (λ t. sym (decode_code p) ∙ ap decode (same.0 t) ∙ decode_code q) (λ e. same.1 (ap code e))
 
 module _ (ps : List Part) where
   -- some part is at each place
@@ -54,20 +53,17 @@ module _ (ps : List Part) where
   part_apart p q i a other b = other (ap kind (part_one p q i a b))
 
   -- a part is at a place or not
-  pub part_or_not : (p : Part) (i : ℕ) → PartAt ps p i ⊎ (PartAt ps p i → ⊥)
+  pub part_or_not : (p : Part) (i : ℕ) → Decided (PartAt ps p i)
   part_or_not p i =
-      ⊎_elim
-      (λ lt. ⊎_elim (λ e. inl (record { inside = lt; is = e })) (λ no. inr (λ a. no a.is)) (same_or_not (get_or ps i p) p))
-      (λ le. inr (λ a. omega (arith, a.inside)))
-      (cases_lt i (length ps))
+      decide_as (decide_pair (decide_lt i (length ps)) (same_or_not (get_or ps i p) p)) (λ h. record { inside = h.0; is = h.1 }) (λ a. (a.inside, a.is))
 
-  pub word_or_not : (i : ℕ) → WordAt ps i ⊎ (WordAt ps i → ⊥)
+  pub word_or_not : (i : ℕ) → Decided (WordAt ps i)
   word_or_not i = ⊎_elim (λ lt. by_part (get_or ps i dot) (part_here i dot lt)) (λ le. inr (λ a. omega (arith, a.1.inside))) (cases_lt i (length ps))
     where
       no_word : (p : Part) → PartAt ps p i → (kind p ≡ 0 → ⊥) → WordAt ps i → ⊥
       no_word p a other b = part_apart p (word b.0) i a other b.1
 
-      by_part : (p : Part) → PartAt ps p i → WordAt ps i ⊎ (WordAt ps i → ⊥)
+      by_part : (p : Part) → PartAt ps p i → Decided (WordAt ps i)
       by_part (word w) a = inl (w, a)
       by_part dot a = inr (no_word dot a (λ e. omega arith))
       by_part at a = inr (no_word at a (λ e. omega arith))

@@ -8,7 +8,7 @@ use Rattle.names.specs.Parts.{part_of, Walks}
 use Rattle.name_parts.specs.Slices.{PartAt}
 use Rattle.name_parts.specs.Outlines.{start_of, count_of, Outlined, Blank, Noted, OutlineOf}
 use Rattle.name_parts.specs.declared.outline.Outline.{Outline}
-use Rattle.name_parts.proofs.Mere.{mere_lt}
+use Rattle.names.proofs.Deciding.{lawful_name}
 use Rattle.name_parts.proofs.Standing.{part_here}
 use Rattle.name_parts.proofs.Spelling.{cut, end_is}
 
@@ -42,7 +42,7 @@ module _ (text : List ℕ) (ps : List Part) (name : IsName text ps) where
       inside = ⊎_elim (λ lt. lt) (λ le. absurd (both_given (walks.end (omega (arith, there, end_is ps text name n le))).0)) (cases_lt n (length ps))
         where
           both_given : given ≡ None → ⊥
-          both_given none = let z : ◌≡◌ {A = ℕ} 0 1 = cc in omega arith
+          both_given none = cc
 
       pub given_part : PartAt ps (part_of part) n
       given_part = subst (λ p. PartAt ps p n) (sym (subst Gives e (shown inside)).1) (part_here ps n dot inside)
@@ -61,8 +61,8 @@ sofar_none text o blank place start ps name = record { outlined = blank.outlined
 module _ (text : List ℕ) (place : ℕ) (o : Outline) (sofar : Sofar text place o) (given : Option (ℕ × WalkedPart)) (text' : List ℕ) (place' : ℕ) (walks : Walks text place given text' place') where
   pub sofar_few : (start : ℕ) (part : WalkedPart) → given ≡ Some (start, part) → ∥ LawfulName text ∥₁ → (count_of o) < 64
   sofar_few start part e lawful =
-      mere_lt lawful (count_of o) 64
-      (λ l. let lt = inside text l.0 l.1 place (count_of o) (sofar l.0 l.1).there given text' place' walks start part e in omega (arith, l.1.few))
+      let (ps, name) = lawful_name text lawful in
+      omega (arith, inside text ps name place (count_of o) (sofar ps name).there given text' place' walks start part e, name.few)
 
   pub sofar_more : (start : ℕ) (part : WalkedPart) → given ≡ Some (start, part) → (o' : Outline) → Noted o start part o' → Sofar text place' o'
   sofar_more start part e o' noted ps name =
