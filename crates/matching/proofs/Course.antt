@@ -1,5 +1,5 @@
 -- The course of a judgement: what has been read, what is left, and what each token changes.
-use Rattle.std.proofs.Common.{◌≡◌, ℕ, ◌+◌, List, [], ◌∷◌, ◌++◌, length, sym, ap, ◌∙◌, subst, ⊎_elim, append_assoc, arith}
+use Rattle.std.proofs.Common.{◌≡◌, ℕ, ◌+◌, List, [], ◌∷◌, ◌++◌, length, drop, sym, ap, ◌∙◌, subst, ⊎_elim, append_assoc, arith}
 use Rattle.names.specs.Names.{Part}
 use Rattle.lists.specs.Trees.{Atom, Sign, atom, group, open_bracket, close_bracket, star, bar, plain, bracket, named, Alts, Tree, list, alts_signs}
 use Rattle.lists.specs.Texts.{tree_signs}
@@ -12,7 +12,7 @@ use Rattle.matching.specs.declared.step.Step.{Step}
 use Rattle.matching.specs.declared.step.Step.TheVariants.{Runs as Each}
 use Rattle.matching.specs.declared.reading.Reading.{Reading}
 use Rattle.matching.specs.Readings.{Begins, Pushed, Repeated, Finished, Barred}
-use Rattle.matching.specs.Judging.{table_of, Means, StepMeans, Derived, GroupReady, TreeReady, Closes, after, Judged}
+use Rattle.matching.specs.Judging.{table_of, Means, StepMeans, Derived, GroupReady, TreeReady, Closes, Judged}
 use Rattle.matching.proofs.Spanning.{span_plain, span_bracket, span_list}
 use Rattle.matching.proofs.Remaining.{Left, left_all, left_atom, left_group, left_open, left_star, left_bar, left_close, left_end}
 use Rattle.matching.proofs.Levels.{Holds, holds_none, holds_put, holds_star, holds_bar, holds_list, holds_empty}
@@ -130,7 +130,7 @@ module _ (judge : Judge) (ps : List Part) (tree : Tree) (tail : List Sign) (clos
     course_close place rest at' e placed = closing course.signs course.left (sym (ap signs_of e) ∙ course.these)
       where
         closing : (signs : List Sign) → Left Ready tree course.level signs → close_bracket ∷ signs_of rest ≡ signs ++ tail → Judged judge ps tree starts runs tail text at'
-        closing [] left g = record { means = means_end reading runs course.level left course.holds f; rest = rest; placed = placed; signs = ap after g }
+        closing [] left g = record { means = means_end reading runs course.level left course.holds f; rest = rest; placed = placed; signs = ap (drop 1) g }
         closing (x ∷ r) left g = let same : x ≡ close_bracket = cc in absurd (left_close (subst (λ y. Left Ready tree course.level (y ∷ r)) same left))
 
     -- no token is left
@@ -138,5 +138,5 @@ module _ (judge : Judge) (ps : List Part) (tree : Tree) (tail : List Sign) (clos
     course_end at' e placed = ending course.signs course.left (sym (ap signs_of e) ∙ course.these)
       where
         ending : (signs : List Sign) → Left Ready tree course.level signs → [] ≡ signs ++ tail → Judged judge ps tree starts runs tail text at'
-        ending [] left g = record { means = means_end reading runs course.level left course.holds f; rest = []; placed = placed; signs = ap after g }
+        ending [] left g = record { means = means_end reading runs course.level left course.holds f; rest = []; placed = placed; signs = ap (drop 1) g }
         ending (x ∷ r) left g = cc

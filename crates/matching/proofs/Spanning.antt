@@ -5,7 +5,8 @@ use Rattle.names.specs.Names.{Part, word, dot, at, plus, Partial}
 use Rattle.lists.specs.Trees
 use Rattle.lists.specs.Trees.{Atom, any, Item, plain, bracket, starred, named, Seq, one, then, Alts, only, or, Tree, empty, list}
 use Rattle.runs.specs.Relations.{Composed, Reach, done, further}
-use Rattle.name_parts.specs.Slices.{slice, Spans, PartAt}
+use Rattle.std.specs.List.{slice_range}
+use Rattle.name_parts.specs.Slices.{Spans, PartAt}
 use Rattle.derivations.specs.Derives.{AtomDerives, a_word, a_dot, an_at, a_plus, a_partial}
 use Rattle.derivations.specs.Derives.{ItemDerives, by_atom, by_bracket, no_runs, more_runs, by_group, SeqDerives, by_item, by_items}
 use Rattle.derivations.specs.Derives.{AltsDerives, by_only, by_earlier, by_last, TreeDerives, by_list}
@@ -20,7 +21,7 @@ module _ {Same : List ℕ → List ℕ → Type 0} {ps : List Part} {i j : ℕ} 
   pub span_atom_word : {w : List ℕ} → Spans ps (AtomDerives Same (Trees.word w)) i j ↔ ((j ≡ i + 1) × ((v : List ℕ) × PartAt ps (word v) i × Same w v))
   span_atom_word {w} = (
     λ h.
-        let (v, is, same) = lone (slice ps i j) h.run in
+        let (v, is, same) = lone (slice_range ps i j) h.run in
         let (next, part) = span_part.0 (span_at h is) in
         (next, (v, part, same)),
     λ t. span_map (λ qs is. subst (AtomDerives Same (Trees.word w)) (sym is) (a_word t.1.2)) (span_part.1 (t.0, t.1.1)),
@@ -76,7 +77,7 @@ module _ {Same : List ℕ → List ℕ → Type 0} {ps : List Part} {i j : ℕ} 
     -- a starred item derives any number of runs of the item
     pub span_star : {x : Item} → Spans ps (ItemDerives Same Group (starred x)) i j ↔ ((i ≤ length ps) × Reach (Spans ps (ItemDerives Same Group x)) i j)
     span_star {x} = (
-      λ h. (omega (arith, h.forward, h.within), cut i j (slice ps i j) (span_at h refl) h.run),
+      λ h. (omega (arith, h.forward, h.within), cut i j (slice_range ps i j) (span_at h refl) h.run),
       λ t. join i j t.0 t.1,
     )
       where
@@ -103,7 +104,7 @@ module _ {Same : List ℕ → List ℕ → Type 0} {ps : List Part} {i j : ℕ} 
         inside qs (by_item d) = d
 
     pub span_then : {s : Seq} {x : Item} → Spans ps (SeqDerives Same Group (then s x)) i j ↔ Composed (Spans ps (SeqDerives Same Group s)) (Spans ps (ItemDerives Same Group x)) i j
-    span_then {s} {x} = (λ h. cut (slice ps i j) (span_at h refl) h.run, λ c. span_join (λ qs rs. by_items) c.1 c.2)
+    span_then {s} {x} = (λ h. cut (slice_range ps i j) (span_at h refl) h.run, λ c. span_join (λ qs rs. by_items) c.1 c.2)
       where
         cut : (qs : List Part) → SpansRow ps qs i j → SeqDerives Same Group (then s x) qs → Composed (Spans ps (SeqDerives Same Group s)) (Spans ps (ItemDerives Same Group x)) i j
         cut qs h (by_items {ps = fs} {qs = rs} d e) = span_cut fs rs h d e
@@ -117,7 +118,7 @@ module _ {Same : List ℕ → List ℕ → Type 0} {ps : List Part} {i j : ℕ} 
 
     pub span_or : {l : Alts} {s : Seq} → Spans ps (AltsDerives Same Group (or l s)) i j ↔ (Spans ps (AltsDerives Same Group l) i j ⊎ Spans ps (SeqDerives Same Group s) i j)
     span_or {l} {s} = (
-      λ h. ⊎_elim (λ d. inl (span_at h d)) (λ d. inr (span_at h d)) (either (slice ps i j) h.run),
+      λ h. ⊎_elim (λ d. inl (span_at h d)) (λ d. inr (span_at h d)) (either (slice_range ps i j) h.run),
       ⊎_elim (span_map λ qs. by_earlier) (span_map λ qs. by_last),
     )
       where
@@ -133,7 +134,7 @@ module _ {Same : List ℕ → List ℕ → Type 0} {ps : List Part} {i j : ℕ} 
         inside qs (by_list d) = d
 
     pub span_empty : Spans ps (TreeDerives Same Group empty) i j → ⊥
-    span_empty h = none (slice ps i j) h.run
+    span_empty h = none (slice_range ps i j) h.run
       where
         none : (qs : List Part) → TreeDerives Same Group empty qs → ⊥
         none qs d = elim d [ ]

@@ -1,7 +1,7 @@
 -- The walk over the tokens of a list while it is judged.
 use Rattle.std.proofs.Common.{◌≡◌, ℕ, ◌+◌, ◌-◌, true, List, [], ◌∷◌, ◌++◌, length, take, drop, Some, None, Option, sym, refl, ap, ◌∙◌, subst, arith, Bor}
 use Rattle.std.specs.List.{AllByRecursion}
-use Rattle.names.specs.Names.{Part, IsName}
+use Rattle.names.specs.Names.{Part}
 use Rattle.lists.specs.declared.token.Token.{Token}
 use Rattle.lists.specs.declared.token.Token.TheVariants.{Word, Dot, At, Plus, Any, Open, Close, Star, Bar, Group}
 use Rattle.lists.specs.declared.token.Lexeme.{Lexeme}
@@ -12,7 +12,6 @@ use Rattle.lists.specs.Trees.{Atom, Sign, atom, named, close_bracket, Tree, list
 use Rattle.lists.specs.Texts.{tree_signs}
 use Rattle.lists.specs.Placed.{Placed, none, signs_of, Walks}
 use Rattle.runs.specs.declared.relation.Runs.{Runs}
-use Rattle.name_parts.specs.Texts.{text_of}
 use Rattle.derivations.specs.Derives.{AtomDerives, ItemDerives, exact, GroupOf}
 use Rattle.matching.specs.declared.held.Judge.{Judge}
 use Rattle.matching.specs.declared.step.Step.{Step}

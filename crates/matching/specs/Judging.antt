@@ -1,5 +1,5 @@
 -- What a judge answers: from which places of a name to which a text derives the parts between.
-use Rattle.std.specs.Prelude.{◌≡◌, ℕ, ◌+◌, ◌<◌, ◌↔◌, List, [], ◌∷◌, ◌++◌, length, slice_index_or}
+use Rattle.std.specs.Prelude.{◌≡◌, ℕ, ◌+◌, ◌<◌, ◌↔◌, List, [], ◌∷◌, ◌++◌, length, drop, slice_index_or}
 use Rattle.std.specs.List.{AllByRecursion}
 use Rattle.runs.specs.declared.relation.Runs.{Runs}
 use Rattle.runs.specs.Runs.{Ends}
@@ -62,16 +62,12 @@ abbrev pub Closes : List Sign → Type 0
 Closes [] = Unit {0}
 Closes (s ∷ ss) = s ≡ close_bracket
 
-abbrev pub after : List Sign → List Sign
-after [] = []
-after (s ∷ ss) = ss
-
 -- the runs are those of the tree, and the tokens that are left are those after the bracket that closes the list
 pub record Judged (judge : Judge) (ps : List Part) (tree : Tree) (starts : ℕ) (runs : Runs) (tail : List Sign) (text : List ℕ) (at : ℕ) : Type 0 where
   pub means : Means ps (Derived (table_of judge) tree) starts runs
   pub rest : List (ℕ × Sign)
   pub placed : Placed text at rest
-  pub signs : signs_of rest ≡ after tail
+  pub signs : signs_of rest ≡ drop 1 tail
 
 -- the tokens from a place on are those of a tree and of what follows it, and the tree is judged from one place to another
 abbrev pub Judges : Judge → List ℕ → ℕ → ℕ → ℕ → Runs → Type 0

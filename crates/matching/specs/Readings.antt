@@ -1,5 +1,5 @@
 -- How a reading changes.
-use Rattle.std.specs.Prelude.{◌≡◌, ℕ, ◌↔◌, Some, None, Option}
+use Rattle.std.specs.Prelude.{◌≡◌, ℕ, ◌↔◌, Some, None, Option, MatchOption}
 use Rattle.runs.specs.declared.relation.Runs.{Runs}
 use Rattle.runs.specs.Relations.{Identity, United, Composed}
 use Rattle.runs.specs.Runs.{Ends}
@@ -16,8 +16,7 @@ pub record Begins (starts : ℕ) (reading : Reading) : Type 0 where
 
 -- runs that go on by the last step, if there is one
 abbrev pub Joined : Runs → Option Step → ℕ → ℕ → Type 0
-Joined seq None i j = Ends seq i j
-Joined seq (Some step) i j = Composed (Ends seq) (StepEnds step) i j
+Joined seq last i j = MatchOption last (Ends seq i j) (λ step. Composed (Ends seq) (StepEnds step) i j)
 
 -- one step more
 pub record Pushed (before : Reading) (step : Step) (after : Reading) : Type 0 where
@@ -28,8 +27,7 @@ pub record Pushed (before : Reading) (step : Step) (after : Reading) : Type 0 wh
 
 -- the last step is repeated, if there is one and its runs are from the first n places
 abbrev pub LastRepeats : Option Step → Option Step → ℕ → Type 0
-LastRepeats None after n = after ≡ None
-LastRepeats (Some step) after n = (repeated : Step) × ((after ≡ Some repeated) × (StepCounted step n → Repeats step repeated n))
+LastRepeats before after n = MatchOption before (after ≡ None) (λ step. (repeated : Step) × ((after ≡ Some repeated) × (StepCounted step n → Repeats step repeated n)))
 
 pub record Repeated (before : Reading) (places : ℕ) (after : Reading) : Type 0 where
   pub first : after.starts ≡ before.starts
@@ -39,8 +37,7 @@ pub record Repeated (before : Reading) (places : ℕ) (after : Reading) : Type 0
 
 -- runs that end by the last step; without one there is no such run
 abbrev pub Ended : Runs → Option Step → ℕ → ℕ → Type 0
-Ended seq None i j = ⊥
-Ended seq (Some step) i j = Composed (Ends seq) (StepEnds step) i j
+Ended seq last i j = MatchOption last ⊥ (λ step. Composed (Ends seq) (StepEnds step) i j)
 
 -- the runs that are done, with those of the sequence
 pub record Finished (reading : Reading) (runs : Runs) : Type 0 where

@@ -6,7 +6,8 @@ use Rattle.names.proofs.Deciding.{Decided}
 use Rattle.positions.proofs.Digits.{has_or_not}
 use Rattle.runs.specs.declared.relation.Runs.{Runs}
 use Rattle.runs.specs.Runs.{Ends}
-use Rattle.name_parts.specs.Slices.{slice, Spans}
+use Rattle.std.specs.List.{slice_range}
+use Rattle.name_parts.specs.Slices.{Spans}
 use Rattle.name_parts.proofs.Mere.{decide_lt, decide_le, decide_true, decide_pair, decide_as}
 use Rattle.name_parts.proofs.Standing.{kind}
 
@@ -50,7 +51,7 @@ partial_or_not (word w ∷ dot ∷ ps) = decide_as (decide_pair (lawful_or_not w
 
 pub spans_or_not : (ps : List Part) (i j : ℕ) → Decided (Spans ps Partial i j)
 spans_or_not ps i j =
-    decide_as (decide_pair (decide_le i j) (decide_pair (decide_le j (length ps)) (partial_or_not (slice ps i j)))) (λ (forward, (within, run)). record { forward = forward; within = within; run = run }) (λ s. (s.forward, (s.within, s.run)))
+    decide_as (decide_pair (decide_le i j) (decide_pair (decide_le j (length ps)) (partial_or_not (slice_range ps i j)))) (λ (forward, (within, run)). record { forward = forward; within = within; run = run }) (λ s. (s.forward, (s.within, s.run)))
 
 pub ends_or_not : (r : Runs) (i j : ℕ) → Decided (Ends r i j)
 ends_or_not r i j = decide_pair (decide_lt i r.count) (has_or_not _ j)

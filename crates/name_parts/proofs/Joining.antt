@@ -7,7 +7,8 @@ use Rattle.names.specs.Names.{Part, word, dot, bytes_of, Partial, single, dotted
 use Rattle.names.proofs.Places.{NoWord, Alternates, last, next}
 use Rattle.positions.specs.Places.{Has}
 use Rattle.runs.specs.Relations.{Reach, done, further}
-use Rattle.name_parts.specs.Slices.{slice, Spans, PartAt}
+use Rattle.std.specs.List.{slice_range}
+use Rattle.name_parts.specs.Slices.{Spans, PartAt}
 use Rattle.name_parts.specs.Outlines.{WordAt}
 use Rattle.name_parts.specs.Dotted.{DotWord, DottedWords}
 use Rattle.name_parts.proofs.Standing.{part_here}
@@ -22,26 +23,26 @@ lawful_word (next b h is rest) w (suc (suc i)) a = lawful_word rest w i (record 
 
 module _ (ps : List Part) where
   -- the parts from a place on: the part there, and those from the next place on
-  pub slice_cons : (p : Part) (i j : ℕ) → PartAt ps p i → i < j → slice ps i j ≡ p ∷ slice ps (i + 1) j
+  pub slice_cons : (p : Part) (i j : ℕ) → PartAt ps p i → i < j → slice_range ps i j ≡ p ∷ slice_range ps (i + 1) j
   slice_cons p i j here lt =
       let n : j - i ≡ suc (j - (i + 1)) = omega arith in
-      ap (λ k. take k (drop i ps)) n ∙ ap (take (suc (j - (i + 1)))) (drop_more ps i p here.inside) ∙ ap (λ q. q ∷ slice ps (i + 1) j) here.is
+      ap (λ k. take k (drop i ps)) n ∙ ap (take (suc (j - (i + 1)))) (drop_more ps i p here.inside) ∙ ap (λ q. q ∷ slice_range ps (i + 1) j) here.is
 
-  pub slice_none : (i j : ℕ) → j ≤ i → slice ps i j ≡ []
+  pub slice_none : (i j : ℕ) → j ≤ i → slice_range ps i j ≡ []
   slice_none i j le = let n : j - i ≡ 0 = omega arith in ap (λ k. take k (drop i ps)) n
 
   -- a run that is not empty
-  module _ (p : Part) (qs : List Part) (i j : ℕ) (within : j ≤ length ps) (e : slice ps i j ≡ p ∷ qs) where
+  module _ (p : Part) (qs : List Part) (i j : ℕ) (within : j ≤ length ps) (e : slice_range ps i j ≡ p ∷ qs) where
     pub cons_forward : i < j
     cons_forward = ⊎_elim (λ lt. lt) (λ le. absurd (omega (arith, ap length (sym e ∙ slice_none i j le)))) (cases_lt i j)
 
-    parted : slice ps i j ≡ get_or ps i p ∷ slice ps (i + 1) j
+    parted : slice_range ps i j ≡ get_or ps i p ∷ slice_range ps (i + 1) j
     parted = slice_cons (get_or ps i p) i j (part_here ps i p (omega (arith, cons_forward))) cons_forward
 
     pub cons_part : PartAt ps p i
     cons_part = record { inside = omega (arith, cons_forward); is = ap (λ l. get_or l 0 p) (sym parted ∙ e) }
 
-    pub cons_rest : slice ps (i + 1) j ≡ qs
+    pub cons_rest : slice_range ps (i + 1) j ≡ qs
     cons_rest = ap (drop 1) (sym parted ∙ e)
 
   module _ (lawful : (w : List ℕ) (i : ℕ) → PartAt ps (word w) i → Word w) (few : length ps ≤ 63) (count words dots : ℕ) (all : count ≡ length ps + 1) (see-words : (i : ℕ) → Has words i ↔ WordAt ps i) (see-dots : (i : ℕ) → Has dots i ↔ PartAt ps dot i) where
@@ -62,10 +63,10 @@ module _ (ps : List Part) where
         record {
           forward = omega (arith, rest.forward);
           within = rest.within;
-          run = subst Partial (sym (slice_cons (word here.0) i j here.1 (omega (arith, rest.forward)) ∙ ap (λ qs. word here.0 ∷ qs) (slice_cons dot (i + 1) j mark (omega (arith, rest.forward)) ∙ ap (λ k. dot ∷ slice ps k j) (sym next)))) (dotted (lawful here.0 i here.1) rest.run);
+          run = subst Partial (sym (slice_cons (word here.0) i j here.1 (omega (arith, rest.forward)) ∙ ap (λ qs. word here.0 ∷ qs) (slice_cons dot (i + 1) j mark (omega (arith, rest.forward)) ∙ ap (λ k. dot ∷ slice_range ps k j) (sym next)))) (dotted (lawful here.0 i here.1) rest.run);
         }
 
-    parts : {qs : List Part} → Partial qs → (i j : ℕ) → j ≤ length ps → slice ps i j ≡ qs → WordAt ps i × (i < j) × Reach Next (i + 1) j
+    parts : {qs : List Part} → Partial qs → (i j : ℕ) → j ≤ length ps → slice_range ps i j ≡ qs → WordAt ps i × (i < j) × Reach Next (i + 1) j
     parts (single {w = w} h) i j within e =
         let lt = cons_forward (word w) [] i j within e in
         let le : j ≤ i + 1 = ⊎_elim (λ more. absurd (omega (arith, ap length (sym (slice_cons (get_or ps (i + 1) dot) (i + 1) j (part_here ps (i + 1) dot (omega arith)) more) ∙ cons_rest (word w) [] i j within e)))) (λ le. le) (cases_lt (i + 1) j) in

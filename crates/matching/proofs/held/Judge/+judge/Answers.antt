@@ -26,17 +26,13 @@ loop-lexeme-preserved-in-Open t c =
           (ap sign c.in-Open.is) c.places.ensures (subst (λ text. Judges c.args.self.now text passed.at last.at c.places.result.count c.judge.result) walks.kept judged.judged) c.push.ensures,
     )
 
-pub returns-in-Close : goal.returns-in-Close
-returns-in-Close t c =
+pub returns-in-Close-clause-judged : goal.returns-in-Close-clause-judged
+returns-in-Close-clause-judged t c =
     let tokens = c.args.tokens.now in
     let before = c.loop-lexeme in
     let passed = c.next.new.self in
     let walks = walked before.invariant.2 c.in-Some.ensures.steps in
-    record {
-      kept = walks.kept;
-      onward = omega (arith, before.invariant.3, walks.onward);
-      judged = courses_close c.args.self.now tokens.text.now tokens.at c.args.starts.count before.tokens.at before.reading before.invariant.4 c.in-Some.lexeme passed.text.now passed.at walks c.finish.result (ap sign c.in-Close.is) c.finish.ensures;
-    }
+    courses_close c.args.self.now tokens.text.now tokens.at c.args.starts.count before.tokens.at before.reading before.invariant.4 c.in-Some.lexeme passed.text.now passed.at walks c.finish.result (ap sign c.in-Close.is) c.finish.ensures
 
 pub loop-lexeme-preserved-in-Star : goal.loop-lexeme-preserved-in-Star
 loop-lexeme-preserved-in-Star t c =
@@ -92,14 +88,10 @@ loop-lexeme-preserved t c =
       courses_atom c.args.self.now tokens.text.now tokens.at c.args.starts.count before.tokens.at before.reading before.invariant.4 c.in-Some.lexeme passed.text.now passed.at walks a c.atom.result c.push-in_default-token.new.self is-atom (λ ps is. c.atom.ensures ps is a is-atom) c.push-in_default-token.ensures,
     )
 
-pub returns : goal.returns
-returns t c =
+pub returns-clause-judged : goal.returns-clause-judged
+returns-clause-judged t c =
     let tokens = c.args.tokens.now in
     let before = c.loop-lexeme in
     let passed = c.next.new.self in
     let walks = walked before.invariant.2 c.in_default.ensures.steps in
-    record {
-      kept = walks.kept;
-      onward = omega (arith, before.invariant.3, walks.found.forward, walks.end);
-      judged = courses_end c.args.self.now tokens.text.now tokens.at c.args.starts.count before.tokens.at before.reading before.invariant.4 passed.text.now passed.at c.finish-2.result walks c.finish-2.ensures;
-    }
+    courses_end c.args.self.now tokens.text.now tokens.at c.args.starts.count before.tokens.at before.reading before.invariant.4 passed.text.now passed.at c.finish-2.result walks c.finish-2.ensures

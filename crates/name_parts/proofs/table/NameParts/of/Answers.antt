@@ -1,4 +1,4 @@
-use Rattle.std.proofs.Common.{◌≡◌, ℕ, ◌+◌, min, ◌↔◌, List, sym, ap, ◌∙◌, subst, arith}
+use Rattle.std.proofs.Common.{◌≡◌, ℕ, ◌+◌, min, ◌↔◌, List, sym, ap, ◌∙◌, subst}
 use Rattle.runs.specs.Runs.{Ends}
 use Rattle.texts.specs.Shown.{shown}
 use Rattle.names.specs.Names.{LawfulName}
@@ -7,9 +7,6 @@ use Rattle.name_parts.specs.Dotted.{DottedWords}
 use Rattle.name_parts.specs.Tables.{PartialNames}
 use Rattle.name_parts.proofs.Holding.{held_few, held_partial}
 use Rattle.name_parts.proofs.table.NameParts.of.Goals as goal
-
-pub overflow_add-len : goal.overflow_add-len
-overflow_add-len c = let few = held_few (shown c.args.name.now.text) c.of-outline.result c.args.name.now.lawful c.of-outline.ensures in omega arith
 
 pub invariant_of-result : goal.invariant_of-result
 invariant_of-result c =
