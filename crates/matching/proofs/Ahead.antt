@@ -1,5 +1,5 @@
 -- Judging what a group leads to: some of it is judged, and the rest is ahead.
-use Rattle.std.proofs.Common.{◌≡◌, ℕ, ◌+◌, ◌<◌, ◌≢◌, ◌⊎◌, ◌↔◌, List, [], length, get_or, set, sym, refl, ap, ◌∙◌, subst, inl, inr, ⊎_elim, get_or-set_other, get_or-set_same}
+use Rattle.std.proofs.Common.{◌≡◌, ℕ, ◌+◌, ◌<◌, ◌≢◌, ◌⊎◌, ◌↔◌, List, [], length, get_or, set, Some, None, sym, refl, ap, ◌∙◌, subst, inl, inr, ⊎_elim, get_or-set_other, get_or-set_same}
 use Rattle.std.proofs.lemmas.Bool.{cases_eq}
 use Rattle.positions.specs.declared.Positions.{Positions}
 use Rattle.positions.specs.Places.{Has, Split}
@@ -14,8 +14,8 @@ use Rattle.openings.specs.Opened.{texts_of}
 use Rattle.openings.specs.Whole.{Tells}
 use Rattle.openings.specs.Answers.{groups_of}
 use Rattle.matching.specs.declared.held.Judge.{Judge}
-use Rattle.matching.specs.Judging.{table_of, Means, Derived, TreeReady}
-use Rattle.matching.specs.Ordering.{Goes}
+use Rattle.matching.specs.Judging.{table_of, judged_runs, Means, Derived, TreeReady}
+use Rattle.matching.specs.Ordering.{IsJudged, Goes}
 use Rattle.matching.proofs.Grounds.{Grounds, same_links}
 use Rattle.matching.proofs.Readiness.{text_ready}
 
@@ -41,7 +41,7 @@ TextJudged judge k runs = (ps : List Part) → IsName (text_of judge.parts) ps �
 pub record Ahead (k : ℕ) (before now : Judge) (ahead : ℕ) : Type 0 where
   pub goes : Goes before now
   pub linked : (m : ℕ) → Has ahead m → Linked before.opened.now.leads k m
-  pub each : (m : ℕ) → Linked before.opened.now.leads k m → Has now.judged.digits m ⊎ Has ahead m
+  pub each : (m : ℕ) → Linked before.opened.now.leads k m → IsJudged now m ⊎ Has ahead m
 
 -- at first the whole row is ahead
 pub ahead_begins : (k : ℕ) (before : Judge) (links : Links) (row walk : Positions) → ∥ Tells (table_of before) links ∥₁ → ((m : ℕ) → Has row.digits m ↔ Linked links k m) → walk ≡ row → Ahead k before before walk.digits
@@ -54,40 +54,44 @@ ahead_begins k before links row walk tells is same =
     }
 
 -- the first that is ahead is judged
-pub ahead_on : {k : ℕ} {before now next : Judge} {ahead m others : ℕ} → Ahead k before now ahead → Split ahead m others → Goes now next → Has next.judged.digits m → Ahead k before next others
-ahead_on {m = m} {others = others} a s g here = record {
+pub ahead_on : {k : ℕ} {before now next : Judge} {ahead m others : ℕ} → Ahead k before now ahead → Split ahead m others → Goes now next → IsJudged next m → Ahead k before next others
+ahead_on {next = next} {m = m} a s g here = record {
   goes = goes_both a.goes g;
   linked = λ j h. a.linked j ((s.others j).0 h).0;
   each = λ j l.
       ⊎_elim
       (λ h. inl (g.kept j h))
-      (λ h. ⊎_elim (λ (e : j ≡ m). inl (subst (Has _) (sym e) here)) (λ (ne : j ≢ m). inr ((s.others j).1 (h, ne))) (cases_eq j m))
+      (λ h. ⊎_elim (λ (e : j ≡ m). inl (subst (IsJudged next) (sym e) here)) (λ (ne : j ≢ m). inr ((s.others j).1 (h, ne))) (cases_eq j m))
       (a.each j l);
 }
 
 -- where nothing is ahead, all that the group leads to is judged
-pub ahead_done : {k : ℕ} {before now : Judge} {ahead : ℕ} → Ahead k before now ahead → ((m : ℕ) → Has ahead m → ⊥) → (m : ℕ) → Linked now.opened.now.leads k m → Has now.judged.digits m
+pub ahead_done : {k : ℕ} {before now : Judge} {ahead : ℕ} → Ahead k before now ahead → ((m : ℕ) → Has ahead m → ⊥) → (m : ℕ) → Linked now.opened.now.leads k m → IsJudged now m
 ahead_done {k} a none m l = ⊎_elim (λ h. h) (λ h. absurd (none m h)) (a.each m (subst (λ o. Linked o.leads k m) a.goes.stays.list l))
 
 -- the judge with one more group, which derives these runs
-abbrev pub with_group : Judge → ℕ → Runs → Positions → Judge
-with_group judge k runs judged = record { parts = judge.parts; opened = judge.opened; groups = set judge.groups k runs; judged = judged }
+abbrev pub with_group : Judge → ℕ → Runs → Judge
+with_group judge k runs = record { parts = judge.parts; opened = judge.opened; groups = set judge.groups k (Some runs) }
 
--- what a group leads to is judged, and then its own text
-module _ (now : Judge) (k : ℕ) (runs : Runs) (judged : Positions) {list : List ℕ} {leads : Links} (g : Grounds list (table_of now) leads) where
-  pub group_judged : k < length (table_of now) → k < length now.groups → ((m : ℕ) → Linked leads k m → Has now.judged.digits m) → TextJudged now k runs → ((j : ℕ) → Has judged.digits j ↔ (Has now.judged.digits j ⊎ ((j ≡ k) × (k < 64)))) → Goes now (with_group now k runs judged)
-  group_judged lt room linked text more = record {
+module _ (now : Judge) (k : ℕ) (runs : Runs) (room : k < length now.groups) where
+  pub runs_here : judged_runs (with_group now k runs) k ≡ Some runs
+  runs_here = get_or-set_same now.groups k (Some runs) None room
+
+  runs_there : (j : ℕ) → j ≢ k → judged_runs (with_group now k runs) j ≡ judged_runs now j
+  runs_there j other = get_or-set_other now.groups k j (Some runs) None other
+
+  -- what a group leads to is judged, and then its own text
+  pub group_judged : {list : List ℕ} {leads : Links} → Grounds list (table_of now) leads → k < length (table_of now) → ((m : ℕ) → Linked leads k m → IsJudged now m) → TextJudged now k runs → Goes now (with_group now k runs)
+  group_judged g lt linked text = record {
     stays = record { name = refl; list = refl };
-    kept = λ j h. (more j).1 (inl h);
-    held = λ ps is held j h below here e tree reads.
+    kept = λ j h. ⊎_elim (λ (same : j ≡ k). subst (IsJudged (with_group now k runs)) (sym same) (runs, runs_here)) (λ (other : j ≢ k). (h.0, runs_there j other ∙ h.1)) (cases_eq j k);
+    held = λ ps is held j below here e tree reads.
         ⊎_elim
         (λ (same : j ≡ k).
-        let own : here ≡ runs = e ∙ ap (λ i. get_or (set now.groups k runs) i here) same ∙ get_or-set_same now.groups k runs here room in
+        let both : Some here ≡ Some runs = sym e ∙ ap (judged_runs (with_group now k runs)) same ∙ runs_here in
+        let own : here ≡ runs = cc in
         let its : Reads (get_or (texts_of (table_of now)) k []) tree = subst (λ i. Reads (get_or (texts_of (table_of now)) i []) tree) same reads in
-        subst (Means ps (Derived (table_of now) tree) (length ps + 1)) (sym own)
-        (text ps is tree its (text_ready now g ps k lt (λ m l. held m (linked m l) (g.inside k m l)) tree its)))
-        (λ (other : j ≢ k).
-        let old : here ≡ get_or now.groups j here = e ∙ get_or-set_other now.groups k j runs here other in
-        held j (⊎_elim (λ h. h) (λ w. absurd (other w.0)) ((more j).0 h)) below here old tree reads)
+        subst (Means ps (Derived (table_of now) tree) (length ps + 1)) (sym own) (text ps is tree its (text_ready now g ps k lt (λ m l. (linked m l, held m (g.inside k m l))) tree its)))
+        (λ (other : j ≢ k). held j below here (sym (runs_there j other) ∙ e) tree reads)
         (cases_eq j k);
   }

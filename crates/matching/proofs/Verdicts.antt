@@ -12,7 +12,7 @@ use Rattle.openings.specs.Answers.{list_of}
 use Rattle.derivations.specs.Derives.{exact, ListDerives}
 use Rattle.matching.specs.declared.held.Judge.{Judge}
 use Rattle.matching.specs.Judging.{table_of, Means, Derived, TreeReady}
-use Rattle.matching.specs.Ordering.{Held}
+use Rattle.matching.specs.Ordering.{IsJudged, Held}
 use Rattle.matching.proofs.Grounds.{grounds}
 use Rattle.matching.proofs.Readiness.{list_ready}
 use Rattle.matching.proofs.Spanning.{span_whole}
@@ -31,7 +31,7 @@ module _ (judge : Judge) (name : List ℕ) (ps : List Part) (is : IsName name ps
   )
 
   -- a judge that holds every group answers by them
-  pub verdict : ((k : ℕ) → k < length (table_of judge) → Held judge ps k) → (runs : Runs) → ((tree : Tree) → Reads (list_of judge.opened.now) tree → TreeReady judge ps tree → Means ps (Derived (table_of judge) tree) 1 runs) → (r : Bool) → (r ≡ true) ↔ Ends runs 0 (length ps) → Decides r Derives
+  pub verdict : ((k : ℕ) → k < length (table_of judge) → IsJudged judge k × Held judge ps k) → (runs : Runs) → ((tree : Tree) → Reads (list_of judge.opened.now) tree → TreeReady judge ps tree → Means ps (Derived (table_of judge) tree) 1 runs) → (r : Bool) → (r ≡ true) ↔ Ends runs 0 (length ps) → Decides r Derives
   verdict held runs judged r has =
       let o = judge.opened.now in
       let form = (lawful_list (list_of o) o.list.lawful).form in

@@ -1,5 +1,5 @@
 -- What a judge answers: from which places of a name to which a text derives the parts between.
-use Rattle.std.specs.Prelude.{◌≡◌, ℕ, ◌+◌, ◌<◌, ◌↔◌, List, [], ◌∷◌, ◌++◌, length, drop, slice_index_or}
+use Rattle.std.specs.Prelude.{◌≡◌, ℕ, ◌+◌, ◌<◌, ◌↔◌, List, [], ◌∷◌, ◌++◌, length, drop, Some, None, Option, slice_index_or}
 use Rattle.std.specs.List.{AllByRecursion}
 use Rattle.runs.specs.declared.relation.Runs.{Runs}
 use Rattle.runs.specs.Runs.{Ends}
@@ -37,6 +37,10 @@ ForParts judge Fact = (ps : List Part) → IsName (text_of judge.parts) ps → F
 abbrev pub table_of : Judge → Table
 table_of judge = groups_of judge.opened.now
 
+-- the runs that the judge holds of a group, if it has judged it
+abbrev pub judged_runs : Judge → ℕ → Option Runs
+judged_runs judge k = slice_index_or judge.groups k None
+
 -- what a tree derives by the groups of a table
 abbrev pub Derived : Table → Tree → List Part → Type 0
 Derived table tree = TreeDerives exact (GroupOf table) tree
@@ -47,7 +51,7 @@ pub record GroupReady (judge : Judge) (ps : List Part) (g : List ℕ) : Type 0 w
   pub tree : Tree
   pub stands : GroupOf (table_of judge) g tree
   pub one : (t : Tree) → GroupOf (table_of judge) g t → t ≡ tree
-  pub held : (k : ℕ) → Numbered (names_of (table_of judge)) g k → (runs : Runs) → runs ≡ slice_index_or judge.groups k runs → Means ps (Derived (table_of judge) tree) (length ps + 1) runs
+  pub held : (k : ℕ) → Numbered (names_of (table_of judge)) g k → (runs : Runs) × (judged_runs judge k ≡ Some runs) × Means ps (Derived (table_of judge) tree) (length ps + 1) runs
 
 -- every group that the tree names is ready
 abbrev pub TreeReady : Judge → List Part → Tree → Type 0

@@ -1,6 +1,5 @@
 -- Which groups have been judged.
-use Rattle.std.specs.Prelude.{◌≡◌, ℕ, ◌+◌, ◌<◌, List, [], length, slice_index_or}
-use Rattle.positions.specs.Places.{Has}
+use Rattle.std.specs.Prelude.{◌≡◌, ℕ, ◌+◌, ◌<◌, List, [], length, Some, slice_index_or}
 use Rattle.runs.specs.declared.relation.Runs.{Runs}
 use Rattle.names.specs.Names.{Part}
 use Rattle.lists.specs.Trees.{Tree}
@@ -8,15 +7,19 @@ use Rattle.lists.specs.Texts.{Reads}
 use Rattle.name_parts.specs.Texts.{text_of}
 use Rattle.openings.specs.Opened.{texts_of}
 use Rattle.matching.specs.declared.held.Judge.{Judge}
-use Rattle.matching.specs.Judging.{ForParts, table_of, Means, Derived}
+use Rattle.matching.specs.Judging.{ForParts, table_of, judged_runs, Means, Derived}
 
--- the judge holds what a group derives, by the tree that its text reads as
+-- the judge has judged a group
+abbrev pub IsJudged : Judge → ℕ → Type 0
+IsJudged judge k = (runs : Runs) × (judged_runs judge k ≡ Some runs)
+
+-- what the judge holds of a group is what it derives, by the tree that its text reads as
 abbrev pub Held : Judge → List Part → ℕ → Type 0
-Held judge ps k = (runs : Runs) → runs ≡ slice_index_or judge.groups k runs → (tree : Tree) → Reads (slice_index_or (texts_of (table_of judge)) k []) tree → Means ps (Derived (table_of judge) tree) (length ps + 1) runs
+Held judge ps k = (runs : Runs) → judged_runs judge k ≡ Some runs → (tree : Tree) → Reads (slice_index_or (texts_of (table_of judge)) k []) tree → Means ps (Derived (table_of judge) tree) (length ps + 1) runs
 
--- it does so for every group that it has judged
+-- so it is for every group
 abbrev pub AllHeld : Judge → List Part → Type 0
-AllHeld judge ps = (k : ℕ) → Has judge.judged.digits k → k < length (table_of judge) → Held judge ps k
+AllHeld judge ps = (k : ℕ) → k < length (table_of judge) → Held judge ps k
 
 -- the judge keeps its name and its list
 pub record Stays (before after : Judge) : Type 0 where
@@ -26,5 +29,5 @@ pub record Stays (before after : Judge) : Type 0 where
 -- the judge goes on: what it had judged stays judged, and it holds what it judges
 pub record Goes (before after : Judge) : Type 0 where
   pub stays : Stays before after
-  pub kept : (k : ℕ) → Has before.judged.digits k → Has after.judged.digits k
+  pub kept : (k : ℕ) → IsJudged before k → IsJudged after k
   pub held : ForParts before (λ ps. AllHeld before ps → AllHeld after ps)

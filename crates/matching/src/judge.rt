@@ -1,12 +1,12 @@
 //! Judging a text: brackets recurse, and everything else is read from left to right.
-ghost use Rattle.std.specs.Prelude.{◌≡◌, ℕ, ◌+◌, ◌<◌, ◌≤◌, ◌↔◌, List, length};
+ghost use Rattle.std.specs.Prelude.{◌≡◌, ℕ, ◌+◌, ◌<◌, ◌≤◌, ◌↔◌, List, length, MatchOption};
 ghost use Rattle.positions.specs.Places.{Has};
 ghost use Rattle.texts.specs.Shown.{shown};
 ghost use Rattle.names.specs.Names.{Part};
 ghost use Rattle.lists.specs.Trees.{Atom, atom, named};
 ghost use Rattle.lists.specs.Lexemes.{sign};
 ghost use Rattle.derivations.specs.Derives.{AtomDerives, ItemDerives, exact, GroupOf};
-ghost use Rattle.matching.specs.Judging.{ForParts, table_of, StepMeans, GroupReady, JudgesText, Judges};
+ghost use Rattle.matching.specs.Judging.{ForParts, table_of, Means, StepMeans, Derived, GroupReady, JudgesText, Judges};
 
 use super::held::Judge;
 use super::places::FirstPlaces;
@@ -50,15 +50,20 @@ impl Judge<'_, '_> {
         }
     }
 
+    // What the group of a name derives, where it is known and has been judged.
+    fn judged(&self, name: &[u8]) -> Option<&Runs>
+        ensures { (ps : List Part) (ready : GroupReady self.now ps name.now) → MatchOption result ⊥ (λ runs. Means ps (Derived (table_of self.now) ready.tree) (length ps + 1) runs.now) }
+    {
+        let k = self.opened.known().number_of(name)?;
+        self.groups[k].as_ref()
+    }
+
     // The step of a reference to a group.
     fn group(&self, name: &[u8]) -> Step
         ensures { (ps : List Part) → GroupReady self.now ps name.now → StepMeans ps (ItemDerives exact (GroupOf (table_of self.now)) (named name.now)) result }
     {
-        // A closure for `map_or` would have to state the bound of its index and what it gives.
-        match self.opened.known().number_of(name) {
-            Some(k) => Step::Runs(self.groups[k]),
-            None => Step::Part(Positions::empty()),
-        }
+        self.judged(name)
+            .map_or(Step::Part(Positions::empty()), |runs| Step::Runs(*runs))
     }
 
     // Judges the list whose tokens come next, up to and with the `)` that closes it, or to the end, from the first

@@ -9,6 +9,7 @@ use positions::Positions;
 use runs::{ClosedRuns, Runs};
 
 /// What an item derives: one part at some places, runs of parts, or any number of runs.
+// An enum and no `dyn`: a reading holds its last step by value, since there is no heap.
 #[derive(Clone, Copy)]
 pub(crate) enum Step {
     Part(Positions),

@@ -13,6 +13,7 @@ use positions::{PLACES, Positions};
 pub(crate) struct Outline {
     pub(crate) starts: ArrayVec<usize, PLACES>,
     pub(crate) words: Positions,
+    // A field for each mark: an array would want one more `match`, from a mark to its number.
     pub(crate) dots: Positions,
     pub(crate) ats: Positions,
     pub(crate) pluses: Positions,

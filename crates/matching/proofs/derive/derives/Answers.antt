@@ -21,7 +21,7 @@ returns c =
     let first : IsName (text_of c.new-judge.result.parts) ps = subst (λ text. IsName text ps) (sym c.new-judge.ensures.name) is in
     let last : IsName (text_of judge.parts) ps = subst (λ text. IsName text ps) (sym goes.stays.name) first in
     let has : (c.has.result ≡ true) ↔ Ends c.judge_text.result 0 (length ps) = subst (λ n. (c.has.result ≡ true) ↔ Ends c.judge_text.result 0 n) (c.count.ensures ps last) c.has.ensures in
-    let held = goes.held ps first (λ k h. absurd (c.new-judge.ensures.none k h)) in
+    let held = goes.held ps first (λ k lt runs is. absurd (c.new-judge.ensures.none k (runs, is))) in
     subst (λ o. Decides c.has.result (ListDerives exact (groups_of o) (list_of o) name)) same
-    (verdict judge name ps is (λ k lt. held k (c.judge_groups.ensures.all k lt) lt) c.judge_text.result
+    (verdict judge name ps is (λ k lt. (c.judge_groups.ensures.all k lt, held k lt)) c.judge_text.result
     (λ tree reads ready. subst (λ n. Means ps (Derived (table_of judge) tree) n c.judge_text.result) c.one.ensures (c.judge_text.ensures ps last tree (subst (λ text. Reads text tree) (sym (c.list.ensures ∙ ap list_of (sym same))) reads) ready)) c.has.result has)

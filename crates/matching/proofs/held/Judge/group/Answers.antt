@@ -1,5 +1,5 @@
-use Rattle.std.proofs.Common.{subst}
-use Rattle.openings.specs.Opening.{Numbered}
+use Rattle.std.proofs.Common.{rules, ◌≡◌, sym, subst, Option, Some, None, MatchOption, Bor}
+use Rattle.runs.specs.declared.relation.Runs.{Runs}
 use Rattle.lists.specs.Trees.{named}
 use Rattle.derivations.specs.Derives.{ItemDerives, exact, GroupOf}
 use Rattle.matching.specs.declared.step.Step.TheVariants.{Runs as Each}
@@ -7,8 +7,10 @@ use Rattle.matching.specs.Judging.{table_of, StepMeans}
 use Rattle.matching.proofs.Naming.{group_means}
 use Rattle.matching.proofs.held.Judge.group.Goals as goal
 
-pub returns-in-Some : goal.returns-in-Some
-returns-in-Some c ps ready =
-    let self = c.args.self.now in
-    let runs = c.index-self-k.result in
-    subst (λ r. StepMeans ps (ItemDerives exact (GroupOf (table_of self)) (named c.args.name.now)) (Each r)) c.index-self-k.is (group_means self ps _ ready runs (ready.held c.in-Some.k (subst (λ gs. Numbered gs c.args.name.now c.in-Some.k) c.known.ensures c.in-Some.ensures) runs c.index-self-k.is))
+-- what follows from the runs that are there
+by_runs : (o : Option (Bor Runs)) (Default : Type 0) (Fact Post : Bor Runs → Type 0) (Goal : Type 0) → MatchOption o ⊥ Fact → MatchOption o Default Post → ((r : Bor Runs) → Fact r → Post r → Goal) → Goal
+by_runs None D F P G never post f = absurd never
+by_runs (Some r) D F P G fact post f = f r fact post
+
+pub returns : goal.returns
+returns c ps ready = by_runs c.judged.result _ _ _ _ (c.judged.ensures ps ready) c.map_or.ensures (λ r means post. let same : c.map_or.result ≡ Each r.now = search rules in subst (StepMeans ps (ItemDerives exact (GroupOf (table_of c.args.self.now)) (named c.args.name.now))) (sym same) (group_means c.args.self.now ps c.args.name.now ready r.now means))
