@@ -10,9 +10,6 @@ module _ (Kind : ℕ → Type 0) (all : ℕ) where
     pub among : (i : ℕ) → Has left i → Has all i
     pub found : (i : ℕ) → Has places i ↔ ((Has all i × Kind i) × (Has left i → ⊥))
 
-  pub found_none : (places : ℕ) → ((i : ℕ) → Has places i → ⊥) → Found all places
-  found_none places none = record { among = λ i h. h; found = λ i. (λ h. absurd (none i h), λ w. absurd (w.1 w.0.0)) }
-
   module _ (left places : ℕ) (was : Found left places) where
     pub found_all : ((i : ℕ) → Has left i → ⊥) → (i : ℕ) → Has places i ↔ (Has all i × Kind i)
     found_all none i = (λ h. ((was.found i).0 h).0, λ w. (was.found i).1 (w, none i))
@@ -36,18 +33,6 @@ module _ (Kind : ℕ → Type 0) (all : ℕ) where
           λ w. ⊎_elim
               (λ (e : i ≡ first). (more i).1 (inr (e, split.below)))
               (λ (ne : i ≢ first). (more i).1 (inl ((was.found i).1 (w.0, still_left i ne w.1))))
-              (cases_eq i first),
-        );
-      }
-
-      pub found_miss : (Kind first → ⊥) → Found rest places
-      found_miss other = record {
-        among = rest_among;
-        found = λ i. (
-          λ h. let w = (was.found i).0 h in (w.0, λ r. w.1 ((split.others i).0 r).0),
-          λ w. ⊎_elim
-              (λ (e : i ≡ first). absurd (other (subst Kind e w.0.1)))
-              (λ (ne : i ≢ first). (was.found i).1 (w.0, still_left i ne w.1))
               (cases_eq i first),
         );
       }

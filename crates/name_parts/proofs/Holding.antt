@@ -65,10 +65,6 @@ module _ (text : List ℕ) (o : Outline) (mere : ∥ OutlineOf text o ∥₁) wh
     held_mark m = held (PartAt ps (part_of_mark m)) (mark_places o m).digits (λ x. x.marks m) (part_or_not ps (part_of_mark m)) (λ i a. a.inside)
 
   module _ (lawful : ∥ LawfulName text ∥₁) where
-    -- a word is at one of the places
-    pub held_inside : (i : ℕ) → ((ps : List Part) → IsName text ps → Has o.words.digits i) → i < (count_of o)
-    held_inside i has = let (ps, name) = lawful_name text lawful in omega (arith, ((held_words ps name i).0 (has ps name)).1.inside, held_count ps name)
-
     -- a part begins before it ends, within the text
     module _ (i end : ℕ) (lt : i < (count_of o)) (ends : EndOf text i end) where
       pub held_forward : get_or o.starts.items i 0 ≤ end
@@ -80,10 +76,7 @@ module _ (text : List ℕ) (o : Outline) (mere : ∥ OutlineOf text o ∥₁) wh
       pub held_within : end ≤ length text
       held_within = let (ps, name) = lawful_name text lawful in omega (arith, ends ps name, start_within ps text name (i + 1))
 
-  -- at a place of a word, the part has these bytes if and only if it is this word
+  -- at a place of a word, the part that has the bytes of this word is this word
   module _ (ps : List Part) (name : IsName text ps) (i : ℕ) (bytes w : List ℕ) (here : BytesAt text i bytes) where
     pub word_found : Has o.words.digits i → bytes ≡ w → PartAt ps (word w) i
     word_found has e = let (v, at-it) = (held_words ps name i).0 has in subst (λ u. PartAt ps (word u) i) (sym (here ps name (word v) at-it) ∙ e) at-it
-
-    pub word_missed : (bytes ≡ w → ⊥) → PartAt ps (word w) i → ⊥
-    word_missed other at-it = other (here ps name (word w) at-it)

@@ -3,12 +3,11 @@ use Rattle.std.proofs.Common.{◌≡◌, ℕ, ◌+◌, ◌<◌, ◌≤◌, List,
 use Rattle.std.proofs.lemmas.List.{take_more}
 use Rattle.std.proofs.lemmas.Bool.{cases_lt}
 use Rattle.names.specs.declared.part.Part.{Part as WalkedPart}
-use Rattle.names.specs.Names.{Part, dot, spell, Steps, IsName, LawfulName}
+use Rattle.names.specs.Names.{Part, dot, spell, Steps, IsName}
 use Rattle.names.specs.Parts.{part_of, Walks}
 use Rattle.name_parts.specs.Slices.{PartAt}
-use Rattle.name_parts.specs.Outlines.{start_of, count_of, Outlined, Blank, Noted, OutlineOf}
+use Rattle.name_parts.specs.Outlines.{start_of, count_of, Outlined, Noted, OutlineOf}
 use Rattle.name_parts.specs.declared.outline.Outline.{Outline}
-use Rattle.names.proofs.Deciding.{lawful_name}
 use Rattle.name_parts.proofs.Standing.{part_here}
 use Rattle.name_parts.proofs.Spelling.{cut, end_is}
 
@@ -53,17 +52,8 @@ module _ (text : List ℕ) (ps : List Part) (name : IsName text ps) where
       pub given_end : place' ≡ start_of ps (n + 1)
       given_end = (subst Gives e (shown inside)).2 ∙ ap (λ qs. length (spell qs)) (sym (take_more ps n dot inside))
 
--- before the first part
-pub sofar_none : (text : List ℕ) (o : Outline) → Blank o → (place : ℕ) → place ≡ 0 → Sofar text place o
-sofar_none text o blank place start ps name = record { outlined = blank.outlined ps; there = start ∙ ap (start_of ps) (sym blank.none) }
-
 -- one step of the walk
 module _ (text : List ℕ) (place : ℕ) (o : Outline) (sofar : Sofar text place o) (given : Option (ℕ × WalkedPart)) (text' : List ℕ) (place' : ℕ) (walks : Walks text place given text' place') where
-  pub sofar_few : (start : ℕ) (part : WalkedPart) → given ≡ Some (start, part) → ∥ LawfulName text ∥₁ → (count_of o) < 64
-  sofar_few start part e lawful =
-      let (ps, name) = lawful_name text lawful in
-      omega (arith, inside text ps name place (count_of o) (sofar ps name).there given text' place' walks start part e, name.few)
-
   pub sofar_more : (start : ℕ) (part : WalkedPart) → given ≡ Some (start, part) → (o' : Outline) → Noted o start part o' → Sofar text place' o'
   sofar_more start part e o' noted ps name =
       let was = sofar ps name in record {
