@@ -34,7 +34,7 @@ pub(crate) fn check_joined<F: Fn(u8) -> bool>(text: &[u8], joins: F) -> Result<(
     requires { F.IsAlwaysCallable joins }
     ensures { (joint : ℕ → Bool) → TellsJoints F.Fn joins joint → MatchResult result (λ _. Joined joint text.now) (Unjoined joint text.now) }
 {
-    // A loop: it ends at the first byte that cannot go on, and tells its place.
+    // A loop: in a `try_fold` the closure would carry `letters` and end with the same fault, so it is no plainer.
     let mut letters = 0;
     for (i, b) in text.iter().enumerate() {
         if is_word_byte(*b) && letters < MAX_WORD_BYTES {
