@@ -7,7 +7,6 @@ use faults::fault::Fault;
 use faults::lawful::LawfulText;
 use lists::list::AccessList;
 use matching::derives;
-use faults::lawful::LawfulText;
 use names::name::Name;
 use names::path::Path;
 use openings::open::open;
