@@ -12,7 +12,7 @@ use faults::lawful::LawfulText;
 use texts::Text;
 
 /// A lawful group name.
-#[derive(Clone, Copy)]
+#[derive(Clone, Copy, Debug, PartialEq, Eq)]
 pub struct GroupName {
     text: Text<MAX_GROUP_NAME_BYTES>,
     ghost lawful: { ∥ IsGroupName (shown text) ∥₁ },

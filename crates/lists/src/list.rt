@@ -17,7 +17,7 @@ use texts::Text;
 pub const MAX_LIST_BYTES: usize = 512;
 
 /// A lawful access list.
-#[derive(Clone, Copy)]
+#[derive(Clone, Copy, Debug, PartialEq, Eq)]
 pub struct AccessList {
     text: Text<MAX_LIST_BYTES>,
     ghost lawful: { ∥ LawfulList (shown text) ∥₁ },

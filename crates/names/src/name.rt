@@ -26,7 +26,7 @@ const MAX_MARKS: usize = MAX_NAME_PARTS / 2;
 pub const MAX_PARTIAL_BYTES: usize = 64;
 
 /// A lawful name.
-#[derive(Clone, Copy)]
+#[derive(Clone, Copy, Debug, PartialEq, Eq)]
 pub struct Name {
     text: Text<MAX_NAME_BYTES>,
     marks: usize,
@@ -81,7 +81,7 @@ impl Name {
 }
 
 /// A lawful partial name: a program, a role or a permission.
-#[derive(Clone, Copy)]
+#[derive(Clone, Copy, Debug, PartialEq, Eq)]
 pub struct PartialName {
     text: Text<MAX_PARTIAL_BYTES>,
     ghost lawful: { ∥ LawfulPartial (shown text) ∥₁ },

@@ -16,7 +16,7 @@ use texts::Text;
 pub const MAX_PATH_BYTES: usize = 64;
 
 /// A lawful path.
-#[derive(Clone, Copy)]
+#[derive(Clone, Copy, Debug, PartialEq, Eq)]
 pub struct Path {
     text: Text<MAX_PATH_BYTES>,
     ghost lawful: { ∥ LawfulPath (shown text) ∥₁ },
