@@ -6,6 +6,7 @@ ghost use Rattle.links.specs.Links.{Linked, Added};
 use super::links::{Links, MAX_GROUPS};
 use positions::Positions;
 
+// An error of its own: a register's has the same shape, but this crate needs no registers.
 /// The table has no row left for a further group.
 #[derive(Clone, Copy, PartialEq, Eq, Debug)]
 pub struct Full;

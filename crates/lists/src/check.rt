@@ -30,6 +30,7 @@ fn read_list(tokens: &mut Tokens<'_>, depth: usize) -> Result<bool, Fault>
     ensures read { MatchResult result (λ closed. ListRead tokens.old.text.now tokens.old.at depth closed tokens.new.at) (λ f. Slip tokens.old.text.now f) }
 {
     let mut due = true;
+    // No `for`: a token can be refused, and a bracket lends the reader on to the call that reads it.
     while let Some(lexeme) = tokens.next_token()? {
         match lexeme.token {
             Token::Open => {

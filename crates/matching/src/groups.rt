@@ -6,6 +6,8 @@ ghost use Rattle.matching.specs.Ordering.{IsJudged, Goes};
 use super::held::Judge;
 
 impl Judge<'_, '_> {
+    // That a group's number is one of the list is a clause here: a type for it would have to hold the opened list too.
+
     // Whether a group has been judged.
     fn is_judged(&self, k: usize) -> bool
         requires { k < length (table_of self.now) }
@@ -35,6 +37,7 @@ impl Judge<'_, '_> {
         ensures goes { Goes self.old self.new }
         ensures all { (k : ℕ) → k < length (table_of self.new) → IsJudged self.new k }
     {
+        // By number: a group's place among the texts is all that is asked of it.
         for k in 0..self.opened.texts().len() {
             self.judge_group(k);
         }

@@ -74,6 +74,7 @@ impl Judge<'_, '_> {
         ensures judged { Judges self.now tokens.old.text.now tokens.old.at tokens.new.at starts.count result }
     {
         let mut reading = Reading::new(starts);
+        // No `for`: a bracket lends the tokens on to the call that judges it.
         while let Some(lexeme) = tokens.next() {
             match lexeme.token {
                 Token::Open => reading.push(Step::Runs(self.judge(tokens, self.places()))),

@@ -41,7 +41,7 @@ impl Step {
                 runs
             }
             Step::Runs(each) => each,
-            Step::Closed(each) => each.into_runs(),
+            Step::Closed(each) => each.into(),
         }
     }
 

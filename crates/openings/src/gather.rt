@@ -14,6 +14,7 @@ use faults::fault::Fault;
 use links::{Links, MAX_GROUPS};
 use lists::list::AccessList;
 
+// The book is a parameter of each step: a struct for it would hold this one reference.
 /// Reads the list and then every group that is met, each when its turn comes.
 pub(crate) fn gather<B: Book>(list: &AccessList, book: &B) -> Result<Gathered, Fault>
     ensures { LawfulList (shown list.now.text) → MatchResult result (λ g. AllGathered (text_of (B.Book.table book.now)) (shown list.now.text) g) (λ f. OpenFault (text_of (B.Book.table book.now)) (shown list.now.text) f) }
@@ -22,6 +23,7 @@ pub(crate) fn gather<B: Book>(list: &AccessList, book: &B) -> Result<Gathered, F
     known.meet_all(list, book)?;
     let mut texts = [*list; MAX_GROUPS];
     let mut links = Links::new();
+    // No `for`: reading a text can make more groups known.
     while let Some(&name) = known.name_at(links.len()) {
         let k = links.len();
         let text = read_group(&name, book).map_err(|fault| fault.in_text(k + 1))?;

@@ -8,6 +8,7 @@ use super::gather::gather;
 use super::opened::Opened;
 use books::book::Book;
 use faults::fault::Fault;
+use faults::lawful::LawfulText;
 use lists::list::AccessList;
 
 /// Opens the list through a book: finds every group that it reaches, reads and checks it; or tells the fault that is

@@ -5,7 +5,7 @@ use registers::record::Record;
 use texts::Text;
 
 /// A program and how often it was started.
-#[derive(Clone, Copy)]
+#[derive(Clone, Copy, Debug, PartialEq, Eq)]
 pub struct Program {
     pub name: Text<8>,
     pub starts: u32,

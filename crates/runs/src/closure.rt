@@ -29,11 +29,11 @@ impl Runs {
     }
 }
 
-impl ClosedRuns {
-    /// The relation itself.
-    pub fn into_runs(self) -> Runs
-        ensures { result ≡ self.runs }
-    {
-        self.runs
+/// The relation itself.
+impl From<ClosedRuns> for Runs {
+    ghost from_gives = { λ closed runs. runs ≡ closed.runs };
+
+    fn from(closed: ClosedRuns) -> Runs {
+        closed.runs
     }
 }

@@ -15,4 +15,4 @@ returns-clause-ends c =
     let dot_word : (i j : ℕ) → Ends c.advance-2.new.self i j ↔ DotWord n words dots i j = trans_same c.advance-2.ensures.ends (advanced_same a_dot words) in
     let counted : c.advance-2.new.self.count ≡ n = c.advance-2.ensures.kept ∙ c.advance.ensures.kept ∙ c.start-dot_word.ensures.counted in
     let from : (i j : ℕ) → ((i < c.advance-2.new.self.count) × Reach (Ends c.advance-2.new.self) i j) ↔ DotWords n words dots i j = λ i j. (λ r. (subst (λ k. i < k) counted r.0, (reach_same dot_word i j).0 r.1), λ r. (subst (λ k. i < k) (sym counted) r.0, (reach_same dot_word i j).1 r.1)) in
-    trans_same c.follow_closed.ensures.ends (composed_same one_word (trans_same c.closed.ensures.ends from))
+    trans_same c.follow.ensures.ends (composed_same one_word (trans_same c.closed.ensures.ends from))
