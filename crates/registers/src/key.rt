@@ -5,6 +5,7 @@ ghost use Rattle.registers.specs.Order.{before};
 
 use texts::Text;
 
+// Not `Ord`: that promises some order of the values, and a register needs this one, of what they mean.
 /// A kind of key. Its meaning is a row of numbers, and keys are ordered as in a dictionary.
 pub trait Key {
     ghost view: { Self → List ℕ };

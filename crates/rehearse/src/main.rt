@@ -67,6 +67,7 @@ fn answer_call(out: &mut impl Write, book: &mut TableBook<'_>, call: Call<'_>) -
         Call::List(text) => answer_with(out, AccessList::new(text).map(|_| "list")),
         Call::Group(name, text) => answer_with(out, book.add(name, text).map(|_| "group")),
         Call::Ungroup(name) => answer_with(out, book.remove(name).map(|_| "ungroup")),
+        // Not by `answer_with`: group names are bytes, and a `Display` writes text.
         Call::Open(list) => match open(list, book) {
             Ok(opened) => write_names(out, &opened),
             Err(fault) => refuse(out, fault),
