@@ -90,6 +90,11 @@ read_list-read_bracket-requires t c =
     let e = same t (goal.at.read_list-read_bracket-requires t c).In-Some in
     (omega (arith, ap length e, on.forward, here.gap.forward, here.some, here.within), subst (λ u. BracketOpens u c.in-Some.lexeme.place c.next_token.new.self.at c.args.depth) (sym e) opens)
 
+pub read_list-returns-in_err-read_bracket-in-Open-clause-read : goal.read_list-returns-in_err-read_bracket-in-Open-clause-read
+read_list-returns-in_err-read_bracket-in-Open-clause-read t c =
+    let p = err_from_is_err_and c.from_residual-in_err-read_bracket-in-Open.result c.from_residual-in_err-read_bracket-in-Open.ensures.1 in
+    rw (p.1, p.2) (subst (λ u. Slip u c.in_err-read_bracket-in-Open.field-0.0) (same t (goal.at.read_list-returns-in_err-read_bracket-in-Open-clause-read t c).In-Some) c.in_err-read_bracket-in-Open.ensures.read)
+
 pub read_list-loop-lexeme-preserved-in-Open : goal.read_list-loop-lexeme-preserved-in-Open
 read_list-loop-lexeme-preserved-in-Open t c =
     let e = same t (goal.at.read_list-loop-lexeme-preserved-in-Open t c).In-Some in
@@ -121,6 +126,11 @@ pub read_list-returns-in_err-after_item-in-Bar-clause-read : goal.read_list-retu
 read_list-returns-in_err-after_item-in-Bar-clause-read t c =
     let p = err_from_is_err_and c.from_residual-in_err-after_item-in-Bar.result c.from_residual-in_err-after_item-in-Bar.ensures.1 in
     rw (p.1, p.2) (bar_slip c.args.tokens.now.text.now c.requires.marked c.loop-lexeme.tokens.at _ _ c.args.depth c.loop-lexeme.due _ (so_far t (goal.at.read_list-returns-in_err-after_item-in-Bar-clause-read t c).After-next_token) (passed t (goal.at.read_list-returns-in_err-after_item-in-Bar-clause-read t c).In-Some Bar c.in-Bar.is) c.in_err-after_item-in-Bar.ensures)
+
+pub read_list-loop-lexeme-preserved-in-Bar : goal.read_list-loop-lexeme-preserved-in-Bar
+read_list-loop-lexeme-preserved-in-Bar t c =
+    let here = passed t (goal.at.read_list-loop-lexeme-preserved-in-Bar t c).In-Some Bar c.in-Bar.is in
+    (same t (goal.at.read_list-loop-lexeme-preserved-in-Bar t c).In-Some, λ d le. leads_join (c.loop-lexeme.invariant.1 d le) (subst (λ x. Leads c.args.tokens.now.text.now c.loop-lexeme.tokens.at c.next_token.new.self.at (within d x) (within d true)) (sym c.in_ok-after_item-in-Bar.ensures) (token_leads c.args.tokens.now.text.now c.loop-lexeme.tokens.at _ _ bar (within d false) (within d true) here refl)))
 
 pub read_list-loop-lexeme-preserved : goal.read_list-loop-lexeme-preserved
 read_list-loop-lexeme-preserved t c =
