@@ -17,6 +17,7 @@ pub trait Book {
     fn text_len(&self, name: &[u8]) -> Option<usize>
         ensures { result ≡ option_map length (text_of (table self.now) name.now) };
 
+    // A lent buffer: the library takes no memory of its own.
     /// Copies a name's text to the front of the buffer, leaves the rest, and answers the text's length; or says why it
     /// wrote nothing.
     fn copy_text(&self, name: &[u8], buffer: &mut [u8]) -> Result<usize, NotCopied>

@@ -5,7 +5,7 @@ ghost use Rattle.faults.specs.Lawful.{Checked};
 
 use super::fault::Fault;
 
-// Not `TryFrom<&[u8]>` and `AsRef<[u8]>`: the first takes no array, and the second promises nothing of the bytes.
+// Not `TryFrom<&[u8]>` and `AsRef<[u8]>`: the first could not say what the second lends, and the second says nothing.
 /// A text that has been checked to be lawful, of one form.
 pub trait LawfulText: Sized {
     // The bytes of a value.

@@ -25,6 +25,7 @@ impl Links {
 }
 
 // Links each of the first groups that names the middle one to all that the middle one names.
+// Not by a function that takes the change: it would be public, for two crates, and have a precondition.
 fn link_through(rows: &mut [Positions], len: usize, middle: usize)
     requires room { len ≤ length rows.old }
     requires inside { middle < len }

@@ -8,6 +8,7 @@ pub const MAX_GROUPS: usize = 32;
 
 /// Which group names which. Row i holds the numbers of the groups that group i names.
 // An array and a count: the library has no heap, and a table is copied, which no `ArrayVec` is.
+// Not one type with `Runs`: those only go forward, which is a fact of their type, and links do not.
 #[derive(Clone, Copy)]
 pub struct Links {
     pub(crate) rows: [Positions; MAX_GROUPS],

@@ -44,10 +44,9 @@ impl Gathered {
     pub(crate) fn check_circles(&self, leads: &Links) -> Result<(), Fault>
         ensures { (M : Meaning) (list : List ℕ) → AllGathered M list self.now → Closes self.now.links leads.now → MatchResult result (λ _. (i place : ℕ) → OnCircle M (known self.now.known) i place → ⊥) (λ f. OpenFault M list f) }
     {
-        // By number: the links and the fault name a group by it.
-        for k in 0..self.known.count {
+        for (k, text) in self.texts[..self.known.count].iter().enumerate() {
             if leads.has(k, k) {
-                if let Some(place) = self.first_back(&self.texts[k], k, leads) {
+                if let Some(place) = self.first_back(text, k, leads) {
                     return Err(Fault::at(Kind::GroupLeadsToItself, place).in_text(k + 1));
                 }
             }

@@ -1,7 +1,7 @@
 -- Sets compared as numbers.
 use Rattle.std.proofs.Common.{◌≡◌, ℕ, suc, ◌/◌, ◌%◌, ◌<◌, ◌≤◌, ◌≢◌, ◌↔◌, sym, refl, subst, ⊎_elim, arith}
 use lib.Arith.{bin_ind}
-use lib.Bits.{bit_and, bit_or, or_add_and, and_le_r}
+use lib.Bits.{bit_and, and_le_r}
 use Rattle.std.proofs.lemmas.Bool.{cases_eq}
 use Rattle.positions.specs.Places.{Has}
 use Rattle.positions.proofs.Digits.{digit, has_empty, has_and}
@@ -41,7 +41,3 @@ pub subset_lt : (a b k : ℕ) → ((i : ℕ) → Has a i → Has b i) → Has b 
 subset_lt a b k part here lacks =
     let le = subset_le a b part in
     ⊎_elim (λ (e : a ≡ b). absurd (lacks (subst (λ m. Has m k) (sym e) here))) (λ (ne : a ≢ b). grind arith) (cases_eq a b)
-
--- a union that adds a place is a greater number
-pub or_grows : (a b : ℕ) → bit_or a b ≢ a → a < bit_or a b
-or_grows a b ne = grind (arith, or_add_and a b, and_le_r a b)

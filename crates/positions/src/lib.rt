@@ -11,6 +11,7 @@ pub use walk::Places;
 /// How many places there are.
 pub const PLACES: usize = 64;
 
+// No `impl Model`: a clause would say the same, `Has s i` for `Has s.digits i`.
 /// A set of places: those whose binary digit is set.
 #[derive(Clone, Copy, PartialEq, Eq, Debug)]
 pub struct Positions {

@@ -14,6 +14,7 @@ pub struct Full;
 #[derive(Drop)]
 pub struct Register<'a, R: Record> {
     // A lent slice and how much of it is used, in place of a map or a `Vec`: the library takes no memory of its own.
+    // No `impl Model`: clauses speak of the rows past those in use too.
     pub(crate) rows: &'a mut [R],
     pub(crate) used: usize,
     pub ghost fits: { used ≤ length rows.now },
@@ -87,6 +88,7 @@ impl<'a, R: Record> Register<'a, R> {
     }
 
     // The place of the row that has the key, or the place where such a row is due.
+    // Not `binary_search_by`: each step would ask `is_before` twice.
     fn place(&self, key: &R::Key) -> Result<usize, usize>
         ensures { MatchResult result (λ at. There R.keyed (rows_in_use self.now) (R.Key.view key.now) at) (λ at. Due R.keyed (rows_in_use self.now) (R.Key.view key.now) at) }
     {

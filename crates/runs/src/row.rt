@@ -9,6 +9,7 @@ use super::relation::Runs;
 use positions::{PLACES, Positions};
 
 impl Runs {
+    // The count is cut at 64 here: `start` is public and takes any, since no public call has a precondition.
     /// The relation that has no run, with at most 64 starts.
     pub(crate) fn none(count: usize) -> Runs
         ensures counted { result.count ≡ min count 64 }

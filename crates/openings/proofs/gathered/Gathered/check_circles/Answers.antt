@@ -1,7 +1,7 @@
-use Rattle.std.proofs.Common.{◌≡◌, rules, [], ◌+◌, ◌<◌, length, sym, ◌∙◌, subst, ⊎_elim, arith}
+use Rattle.std.proofs.Common.{◌≡◌, ap, get_or, rules, [], ◌+◌, ◌<◌, length, sym, ◌∙◌, subst, ⊎_elim, arith}
 use borrow.Author.Tests.{clash}
 use Rattle.std.proofs.lemmas.Bool.{cases_lt}
-use Rattle.std.proofs.lemmas.List.{get_or-map}
+use Rattle.std.proofs.lemmas.List.{get_or-map, get_or-take, length-take-le}
 use Rattle.openings.specs.References.{Refers}
 use Rattle.openings.specs.Circles.{OnCircle}
 use Rattle.openings.specs.Gathering.{text_in}
@@ -19,8 +19,9 @@ returns-in-Some c M list all closes =
     let size : length self.texts ≡ 32 = search rules in
     let here : k < length (known self.known) = omega (arith, known_count self.known, c.loop-k-test.true) in
     let (rs, refers) = text_refers all k here in
-    let own = get_or-map text_in self.texts k c.index-self-k.result [] (omega (arith, c.loop-k-test.true, self.known.few, size)) in
-    rw (c.in_text.ensures, c.at.ensures) (circle_fault all (first_back all c.args.leads.now closes k here refers (c.in-Some.ensures rs (subst (λ t. Refers t rs) own refers)) (c.loop-k.invariant M list all closes)))
+    let own = get_or-map text_in self.texts k c.text-item.result [] (omega (arith, c.loop-k-test.true, self.known.few, size)) in
+    let item : get_or self.texts k c.text-item.result ≡ c.text-item.result = sym (get_or-take self.known.count self.texts k c.text-item.result (omega (arith, c.loop-k-test.true, length-take-le self.known.count self.texts (omega (arith, self.known.few, size))))) ∙ search rules in
+    rw (c.in_text.ensures, c.at.ensures) (circle_fault all (first_back all c.args.leads.now closes k here refers (c.in-Some.ensures rs (subst (λ t. Refers t rs) (own ∙ ap text_in item) refers)) (c.loop-k.invariant M list all closes)))
 
 pub loop-k-preserved : goal.loop-k-preserved
 loop-k-preserved c M list all closes j q le circle =
@@ -33,8 +34,9 @@ loop-k-preserved c M list all closes j q le circle =
     let none : OnCircle M (known self.known) (k + 1) q → ⊥ =
     elim c.if-has.branch [
       | then-has+in_default w ↦
-          let own = get_or-map text_in self.texts k w.index-self-k.result [] (omega (arith, c.loop-k-test.true, self.known.few, size)) in
-          no_back all leads closes k here refers (w.in_default.ensures rs (subst (λ t. Refers t rs) own refers)) q
+          let own = get_or-map text_in self.texts k c.text-item.result [] (omega (arith, c.loop-k-test.true, self.known.few, size)) in
+          let item : get_or self.texts k c.text-item.result ≡ c.text-item.result = sym (get_or-take self.known.count self.texts k c.text-item.result (omega (arith, c.loop-k-test.true, length-take-le self.known.count self.texts (omega (arith, self.known.few, size))))) ∙ search rules in
+          no_back all leads closes k here refers (w.in_default.ensures rs (subst (λ t. Refers t rs) (own ∙ ap text_in item) refers)) q
       | else-has w ↦ no_self all leads closes k here (λ l. clash (sym w.if-has.false ∙ c.has.ensures.1 l)) q
     ] in
     ⊎_elim
