@@ -14,6 +14,7 @@ use faults::kind::Kind;
 use faults::lawful::LawfulText;
 use lists::group_name::GroupName;
 use lists::list::MAX_LIST_BYTES;
+use names::limit::copy_within;
 use texts::Text;
 
 impl<'a> TableBook<'a> {
@@ -23,7 +24,7 @@ impl<'a> TableBook<'a> {
         ensures memory { MatchResult result (λ _. Kept self.old.groups self.new.groups) (λ _. Same self.old.groups self.new.groups) }
     {
         let name = GroupName::new(name)?;
-        let text = Text::copy_of(text).ok_or(Fault::at(Kind::TextTooLong, MAX_LIST_BYTES))?;
+        let text = copy_within::<MAX_LIST_BYTES>(text, Kind::TextTooLong)?;
         self.groups
             .put(Group { name, text })
             .map_err(|_| Fault::at(Kind::NoRowFree, 0))

@@ -19,4 +19,3 @@ pub mod Placing
 pub mod Stepping
 pub mod Grouping
 pub mod Deciding
-pub mod Copying

@@ -9,6 +9,7 @@ use super::reader::MAX_GROUP_NAME_BYTES;
 use faults::fault::Fault;
 use faults::kind::Kind;
 use faults::lawful::LawfulText;
+use names::limit::copy_within;
 use texts::Text;
 
 /// A lawful group name.
@@ -26,10 +27,7 @@ impl LawfulText for GroupName {
     ghost faulty = { GroupNameFault };
 
     fn new(text: &[u8]) -> Result<GroupName, Fault> {
-        let held = Text::copy_of(text).ok_or(Fault::at(
-            Kind::GroupNameUnlawful,
-            MAX_GROUP_NAME_BYTES,
-        ))?;
+        let held = copy_within::<MAX_GROUP_NAME_BYTES>(text, Kind::GroupNameUnlawful)?;
         let end = run_end(text, 0, is_group_byte);
         if end < text.len() || end == 0 {
             return Err(Fault::at(Kind::GroupNameUnlawful, end));

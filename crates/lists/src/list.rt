@@ -11,6 +11,7 @@ use super::walk::ListTokens;
 use faults::fault::Fault;
 use faults::kind::Kind;
 use faults::lawful::LawfulText;
+use names::limit::copy_within;
 use texts::Text;
 
 /// The most bytes that a list text has.
@@ -34,7 +35,7 @@ impl LawfulText for AccessList {
         ensures answer { Checked (λ list. shown list.text) LawfulList ListFault text.now result }
         ensures reading { OneReading text.now }
     {
-        let held = Text::copy_of(text).ok_or(Fault::at(Kind::TextTooLong, MAX_LIST_BYTES))?;
+        let held = copy_within::<MAX_LIST_BYTES>(text, Kind::TextTooLong)?;
         check_list(text)?;
         Ok(AccessList { text: held })
     }

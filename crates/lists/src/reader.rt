@@ -14,7 +14,7 @@ use names::word::{MAX_WORD_BYTES, is_word_byte};
 /// The most bytes that a group name has.
 pub const MAX_GROUP_NAME_BYTES: usize = 32;
 
-// The token that a byte is by itself. Not `TryFrom`: a byte of a longer token is none, and yet no error.
+// The token that a byte is by itself. Not `TryFrom<u8>`: its error would say no more than none does.
 #[tactic(auto, unfolding(crate::specs::Bytes::sign_of))]
 fn mark<'a>(b: u8) -> Option<Token<'a>>
     ensures { option_map sign result ≡ sign_of b }

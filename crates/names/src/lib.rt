@@ -2,7 +2,7 @@
 #![tactic(auto)]
 
 mod joint;
-mod limit;
+pub mod limit;
 pub mod name;
 pub mod part;
 pub mod path;

@@ -23,6 +23,7 @@ pub struct Parts<'a> {
 }
 
 // Where the word bytes from a place on end.
+// Not a `run_end` that lists shares: a public call has no precondition, and that one needs two.
 fn word_end(text: &[u8], from: usize) -> usize
     requires { from ≤ length text.now }
     ensures { WordEnd text.now from result }

@@ -1,11 +1,10 @@
 use Rattle.std.proofs.Common.{◌≡◌, rules, ◌∙◌}
-use Rattle.std.proofs.lemmas.Option.{MatchOption-at_some, MatchOption-at_none}
 use Rattle.std.proofs.lemmas.Result.{err_from_is_err_and}
 use Rattle.faults.specs.declared.kind.Kind.TheVariants.{NoRowFree}
 use Rattle.names.specs.Faults.{fault}
 use Rattle.registers.specs.Registers.{rows_in_use}
 use Rattle.books.specs.Changes.{bad_name, long_text, no_row}
-use Rattle.books.proofs.Changing.{puts_added, no_text, table_length, ok_or_err, map_err_keeps}
+use Rattle.books.proofs.Changing.{puts_added, no_text, table_length, map_err_keeps}
 use Rattle.books.proofs.table.TableBook.add.Goals as goal
 
 pub returns-in_err-name-clause-table : goal.returns-in_err-name-clause-table
@@ -16,14 +15,14 @@ returns-in_err-name-clause-table c =
 pub returns-in_err-text-clause-table : goal.returns-in_err-text-clause-table
 returns-in_err-text-clause-table c =
     let p = err_from_is_err_and c.from_residual-in_err-text.result c.from_residual-in_err-text.ensures.1 in
-    let none = ok_or_err c.copy_of.result c.at.result c.in_err-text.field-0.0 c.in_err-text.ensures.value in
-    rw (p.1, p.2, none.1, c.at.ensures) (long_text c.in_ok-name.ensures.1.lawful (MatchOption-at_none _ _ none.0 c.copy_of.ensures))
+    let over = c.in_err-text.ensures in
+    rw (p.1, p.2, over.1) (long_text c.in_ok-name.ensures.1.lawful over.0)
 
 pub returns-clause-table : goal.returns-clause-table
 returns-clause-table c =
     let book = c.args.self.now in
     let named = c.in_ok-name.ensures in
-    let held = MatchOption-at_some _ _ c.in_ok-text.text c.in_ok-text.ensures.ok_part c.copy_of.ensures in
+    let held = c.in_ok-text.ensures in
     map_err_keeps c.put.result c.map_err.result c.map_err.ensures.cases c.put.ensures.table
     (λ put. puts_added book.groups c.put.new.self _ c.args.name.now c.args.text.now named.0 held.1 put)
     (λ full f made refused.
