@@ -10,7 +10,7 @@ use Rattle.books.specs.Tables.{Table}
 use Rattle.derivations.specs.Derives.{exact, TreeDerives, GroupOf, ListDerives}
 use Rattle.derivations.specs.Cases.{Case, Holds}
 use Rattle.derivations.proofs.Cutting.{tree_of, tree_of_lem, reads_as_list, lawful_list, reads_tree}
-use Rattle.derivations.proofs.Elements.{every_passed}
+use Rattle.lists.proofs.Elements.{every_passed}
 use Rattle.derivations.proofs.Matchers.{Exact}
 use Rattle.derivations.proofs.GroupMatchers.{within, matcher, matcher_exact}
 use Rattle.derivations.proofs.Splitting.{parts_of, parts_split, reads_as_name, lawful_name}

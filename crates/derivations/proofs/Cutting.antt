@@ -1,20 +1,18 @@
 -- The tree that a text reads as is a function of the text: it is cut into signs, and these build a tree.
-use Rattle.std.proofs.Common.{◌≡◌, ℕ, Bool, true, false, not, ◌&&◌, ◌||◌, eqb, leb, List, [], length, Some, None, Option, sym, ap, ◌∙◌, subst, ⊎_elim, arith, eqb-true, leb-true}
+use Rattle.std.proofs.Common.{◌≡◌, ℕ, Bool, true, false, not, ◌&&◌, ◌||◌, eqb, leb, List, [], length, Some, None, Option, sym, ap, ◌∙◌, subst, ⊎_elim, eqb-true, leb-true}
 use borrow.Author.Tests.{clash, not-true}
 use Rattle.std.proofs.lemmas.Bool.{and_parts, or_cases}
 use Rattle.std.specs.List.{list_all}
 use Rattle.lists.specs.Trees.{Tree, empty, list}
-use Rattle.lists.specs.Tokens.{Spells, ends}
-use Rattle.lists.specs.Texts.{Reads, ListText, LawfulList}
+use Rattle.lists.specs.Texts.{Reads, LawfulList}
 use Rattle.lists.specs.Machine.{At, within, State, out, word, brace, name, braced, reads, start}
 use Rattle.lists.proofs.Build.{Place, inside, fresh, barred, full, build}
 use Rattle.lists.proofs.Halts.{item_list}
 use Rattle.lists.proofs.Machine.{Lands}
-use Rattle.lists.proofs.Segments.{all_blanks}
 use Rattle.lists.proofs.UniqueSpelling.{outside, cut, cut_spelled}
 use Rattle.lists.proofs.UniqueTree.{build_alts}
 use Rattle.lists.proofs.Viable.{reads_item}
-use Rattle.derivations.proofs.Elements.{every_passed}
+use Rattle.lists.proofs.Whole.{blank_list}
 
 abbrev tree_at : Place → Tree
 tree_at (inside us fresh) = empty
@@ -57,9 +55,6 @@ blank text = list_all (λ b. eqb b 32) text
 
 abbrev pub reads_as_list : List ℕ → Bool
 reads_as_list text = leb (length text) 512 && (landed (reads start text) || blank text)
-
-blank_list : (text : List ℕ) → blank text ≡ true → ListText text
-blank_list text e = record { tree = empty; reads = subst (λ t. Spells t []) (sym (all_blanks text (every_passed (λ b. eqb b 32 ≡ true) (λ b. eqb b 32) (λ b is. is) text e))) (ends (length text)); shallow = omega arith }
 
 module _ (text : List ℕ) (is : reads_as_list text ≡ true) where
   pub lawful_list : LawfulList text

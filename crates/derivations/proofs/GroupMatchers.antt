@@ -10,7 +10,7 @@ use Rattle.books.specs.Tables.{Table, text_of}
 use Rattle.derivations.specs.Derives.{exact, TreeDerives, GroupOf}
 use Rattle.derivations.specs.References.{tree_groups}
 use Rattle.derivations.proofs.Cutting.{tree_of, tree_of_lem, reads_as_list, reads_tree}
-use Rattle.derivations.proofs.Elements.{every_passed}
+use Rattle.lists.proofs.Elements.{every_passed}
 use Rattle.derivations.proofs.Matchers.{Matcher, Exact, other_run}
 use Rattle.derivations.proofs.TreeMatchers.{nothing, tree, GroupDerives, GroupExact, tree_exact}
 

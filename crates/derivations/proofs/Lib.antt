@@ -1,4 +1,3 @@
-pub mod Elements
 pub mod Reached
 pub mod Readings
 pub mod Splitting

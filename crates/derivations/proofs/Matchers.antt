@@ -11,7 +11,7 @@ use Rattle.names.specs.Names.{Part, word, dot, at, plus, Partial, single, dotted
 use Rattle.lists.specs.Trees
 use Rattle.lists.specs.Trees.{Atom, any}
 use Rattle.derivations.specs.Derives.{exact, AtomDerives, a_word, a_dot, an_at, a_plus, a_partial}
-use Rattle.derivations.proofs.Elements.{every_passed}
+use Rattle.lists.proofs.Elements.{every_passed}
 
 abbrev pub Matcher : Type 0
 Matcher = List Part → (List Part → Bool) → Bool

@@ -8,7 +8,7 @@ use Rattle.lists.specs.Texts.{Reads}
 use Rattle.books.specs.Tables.{Table, text_of}
 use Rattle.derivations.specs.Derives.{ItemDerives, by_atom, by_bracket, no_runs, more_runs, by_group, SeqDerives, by_item, by_items, AltsDerives, by_only, by_earlier, by_last, TreeDerives, by_list, GroupOf, ListDerives}
 use Rattle.derivations.specs.References.{item_groups, seq_groups, alts_groups, tree_groups}
-use Rattle.derivations.proofs.Elements.{every_front, every_back}
+use Rattle.lists.proofs.Elements.{every_front, every_back}
 
 -- P holds of each name that is reached: of those in the tree, and with a name of those in its group's tree
 module _ (Same : List ℕ → List ℕ → Type 0) (G H : List ℕ → Tree → Type 0) (P : List ℕ → Type 0) (closed : (g : List ℕ) (t : Tree) → P g → G g t → AllByRecursion P (tree_groups t)) (agrees : (g : List ℕ) (t : Tree) → P g → G g t → H g t) where

@@ -10,7 +10,8 @@ use Rattle.lists.specs.Trees.{Sign, atom, word, group}
 use Rattle.lists.specs.Bytes.{group_byte, IsGroupName, blanks, sign_of, part, Past, Run}
 use Rattle.lists.specs.Tokens.{Shows, shows_word, shows_mark, shows_group}
 use Rattle.lists.specs.Lexemes.{Gap, is_closing, TokenAt, TokenFault, long_word, no_name, long_name, no_brace}
-use Rattle.lists.proofs.Segments.{part_length, part_join, part_one, past_byte, past_end, past_at, all_blanks, every_append}
+use Rattle.lists.proofs.Segments.{part_length, part_join, part_one, past_byte, past_end, past_at, all_blanks}
+use Rattle.lists.proofs.Elements.{every_front}
 
 module _ (text : List ℕ) where
   -- a run that begins with a byte of its kind has some
@@ -20,7 +21,7 @@ module _ (text : List ℕ) where
 
   -- the first bytes of a run are of its kind
   run_front : (p : ℕ → Bool) (i j k : ℕ) → i ≤ k → k ≤ j → Run p text i j → AllByRecursion (λ b. p b ≡ true) (part text i k)
-  run_front p i j k le le' r = every_append (λ b. p b ≡ true) (part text i k) (part text k j) (subst (AllByRecursion (λ b. p b ≡ true)) (part_join text i k j le le') r.bytes)
+  run_front p i j k le le' r = every_front (λ b. p b ≡ true) (part text i k) (part text k j) (subst (AllByRecursion (λ b. p b ≡ true)) (part_join text i k j le le') r.bytes)
 
   -- a gap is blanks
   pub gap_blanks : (i j : ℕ) → Gap text i j → part text i j ≡ blanks (j - i)

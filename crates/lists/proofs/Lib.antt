@@ -1,3 +1,4 @@
+pub mod Elements
 pub mod Signs
 pub mod Build
 pub mod UniqueTree

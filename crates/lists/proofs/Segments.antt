@@ -54,10 +54,6 @@ pub all_blanks : (t : List ℕ) → AllByRecursion (λ b. eqb b 32 ≡ true) t �
 all_blanks [] h = refl
 all_blanks (b ∷ t) h = λ i. eqb-true b 32 h.0 i ∷ all_blanks t h.1 i
 
-pub every_append : (P : ℕ → Type 0) (s t : List ℕ) → AllByRecursion P (s ++ t) → AllByRecursion P s
-every_append P [] t h = tt
-every_append P (b ∷ s) t h = (h.0, every_append P s t h.1)
-
 -- the bytes of a kind that a text begins with are a run
 pub prefix_bytes : (p : ℕ → Bool) (t : List ℕ) → AllByRecursion (λ b. p b ≡ true) (take (prefix_len p t) t)
 prefix_bytes p [] = tt

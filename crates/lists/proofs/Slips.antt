@@ -20,7 +20,8 @@ use Rattle.lists.specs.Machine.{Closes, ItemStands, NotBlank, BracketOpens, At, 
 use Rattle.lists.proofs.Signs.{step_open, step_close}
 use Rattle.lists.proofs.Machine.{Lands, reads_append, reads_blanks, out_sign, out_brace, out_reads_word, brace_reads_name, blank_ungrouped, sign_cases}
 use Rattle.lists.proofs.Viable.{reads_item, closes_item}
-use Rattle.lists.proofs.Segments.{part_length, part_join, part_none, part_one, part_more, past_at, every_append}
+use Rattle.lists.proofs.Segments.{part_length, part_join, part_none, part_one, part_more, past_at}
+use Rattle.lists.proofs.Elements.{every_front}
 use Rattle.lists.proofs.Lexing.{gap_blanks}
 use Rattle.lists.proofs.Tallies.{is_brace, depth}
 use Rattle.lists.proofs.Course.{alike_brace, alike_depth, gap_reads, gap_leads, leads_join, token_leads, stands_lands}
@@ -118,7 +119,7 @@ module _ (text : List ℕ) (marked : NotBlank text) where
   last_byte P p lt h =
       let one_more : p + 33 ≡ p + 32 + 1 = omega arith in
       let h' = subst (AllByRecursion P) (ap (part text p) one_more ∙ part_more text p (p + 32) (omega arith) lt) h in
-      (every_append P (part text p (p + 32)) _ h', last (part text p (p + 32)) h')
+      (every_front P (part text p (p + 32)) _ h', last (part text p (p + 32)) h')
     where
       last : (u : List ℕ) → AllByRecursion P (u ++ (get_or text (p + 32) 0 ∷ [])) → P (get_or text (p + 32) 0)
       last [] q = q.0

@@ -16,16 +16,16 @@ put_star us (full (only s)) x = refl
 put_star us (full (or l s)) x = refl
 
 -- each item of a sequence put in order
-abbrev puts : Level → Seq → Level
+abbrev pub puts : Level → Seq → Level
 puts u (one x) = put u x
 puts u (then s x) = put (puts u s) x
 
 -- the items of a sequence make it, on a fresh level or behind a bar
-puts_fresh : (s : Seq) → puts fresh s ≡ full (only s)
+pub puts_fresh : (s : Seq) → puts fresh s ≡ full (only s)
 puts_fresh (one x) = refl
 puts_fresh (then s x) = ap (λ u. put u x) (puts_fresh s)
 
-puts_barred : (l : Alts) (s : Seq) → puts (barred l) s ≡ full (or l s)
+pub puts_barred : (l : Alts) (s : Seq) → puts (barred l) s ≡ full (or l s)
 puts_barred l (one x) = refl
 puts_barred l (then s x) = ap (λ u. put u x) (puts_barred l s)
 

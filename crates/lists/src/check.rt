@@ -5,7 +5,7 @@ ghost use Rattle.lists.specs.Texts.{ListText};
 ghost use Rattle.lists.specs.Faults.{Slip};
 
 use super::MAX_DEPTH;
-use super::class::{is_blank, run_end};
+use super::class::is_blank;
 use super::reader::Tokens;
 use super::token::Token;
 use faults::fault::Fault;
@@ -15,7 +15,7 @@ use faults::kind::Kind;
 pub(crate) fn check_list(text: &[u8]) -> Result<(), Fault>
     ensures { MatchResult result (λ _. ListText text.now) (λ f. Slip text.now f) }
 {
-    if run_end(text, 0, is_blank) == text.len() {
+    if text.iter().all(|b| is_blank(*b)) {
         return Ok(());
     }
     read_list(&mut Tokens::new(text), 0)?;
@@ -23,6 +23,7 @@ pub(crate) fn check_list(text: &[u8]) -> Result<(), Fault>
 }
 
 // Reads a list that stands within `depth` brackets. Answers whether a bracket closes it, or else the text's end.
+// That the text stays is a clause, since it is what a call leaves of the reader that is lent to it.
 #[cycle(read_bracket_read_list)]
 fn read_list(tokens: &mut Tokens<'_>, depth: usize) -> Result<bool, Fault>
     requires { ListBegins tokens.old.text.now tokens.old.at depth }

@@ -63,10 +63,9 @@ impl<'a> Tokens<'a> {
         ensures { MatchResult result (λ n. Next self.now.text.now self.now.at n) (λ f. TokenFault self.now.text.now self.now.at f) }
     {
         let place = run_end(self.text, self.at, is_blank);
-        if place == self.text.len() {
+        let Some(&b) = self.text.get(place) else {
             return Ok(None);
-        }
-        let b = self.text[place];
+        };
         if is_word_byte(b) {
             return self.word_at(place).map(Some);
         }
@@ -114,7 +113,7 @@ impl<'a> Tokens<'a> {
             return Err(Fault::at(Kind::GroupNameUnlawful, start + MAX_GROUP_NAME_BYTES));
         }
         let close = run_end(text, end, is_blank);
-        if close == text.len() || text[close] != b'}' {
+        if text.get(close) != Some(&b'}') {
             return Err(Fault::at(Kind::GroupNameUnlawful, close));
         }
         Ok(Lexeme {

@@ -5,7 +5,7 @@ use Rattle.names.specs.Words.{word_byte}
 use Rattle.lists.specs.Bytes.{group_byte, sign_of}
 use Rattle.derivations.specs.Cases.{Holds, cases}
 use Rattle.derivations.proofs.CaseTest.{test, holds}
-use Rattle.derivations.proofs.Elements.{every_passed}
+use Rattle.lists.proofs.Elements.{every_passed}
 use Rattle.derivations.proofs.case_count.Goals as goal
 
 tested : list_all test cases ≡ true

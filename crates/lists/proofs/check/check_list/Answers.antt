@@ -1,19 +1,25 @@
-use Rattle.std.proofs.Common.{◌<◌, true, length, sym, subst, arith}
+use Rattle.std.proofs.Common.{◌≡◌, true, sym, ◌∙◌, subst, arith, rules, tests}
+use Rattle.std.specs.List.{list_all}
+use Rattle.std.proofs.lemmas.Iterator.{YieldsList-from_slice}
+use Rattle.std.proofs.lemmas.Iterator.Search.{all_from_yields_List}
 use Rattle.lists.specs.Lexemes.{is_blank}
 use Rattle.lists.specs.Machine.{within, ListBegins, ListRead}
 use Rattle.lists.proofs.Course.{leads_none}
 use Rattle.lists.proofs.Whole.{marked_by, blank_list, read_list}
 use Rattle.lists.proofs.check.check_list.Goals as goal
+use Rattle.lists.proofs.check.check_list.Goals.{After-all}
 
-pub returns-then-run_end-text : goal.returns-then-run_end-text
-returns-then-run_end-text c = blank_list c.args.text.now c.run_end.result (c.run_end.ensures.run is_blank (λ b r e. e)) (omega (arith, c.if-run_end-text.true))
+all_blank : (c : After-all) → c.all.result ≡ list_all is_blank c.args.text.now
+all_blank c = all_from_yields_List is_blank _ _ c.all.result c.all.ensures.ran (YieldsList-from_slice c.args.text.now cc) (λ x b q k. search (rules, tests))
+
+pub returns-then-all : goal.returns-then-all
+returns-then-all c = blank_list c.args.text.now (sym (all_blank (goal.at.returns-then-all c).After-all) ∙ c.if-all.true)
 
 pub read_list-requires : goal.read_list-requires
 read_list-requires c =
     let text = c.args.text.now in
-    let short : c.run_end.result < length text = omega (arith, c.run_end.ensures.within, c.if-run_end-text.false) in
     let (same, front) = c.new.ensures.place in
-    let begins : ListBegins text 0 0 = record { marked = marked_by text c.run_end.result (c.run_end.ensures.run is_blank (λ b r e. e)) short; shallow = omega arith; leads = leads_none text 0 (within 0 true) (omega arith) } in
+    let begins : ListBegins text 0 0 = record { marked = marked_by text (sym (all_blank (goal.at.read_list-requires c).After-all) ∙ c.if-all.false); shallow = omega arith; leads = leads_none text 0 (within 0 true) (omega arith) } in
     subst (λ u. ListBegins u c.new.result.at 0) (sym same) (subst (λ k. ListBegins text k 0) (sym front) begins)
 
 pub returns : goal.returns

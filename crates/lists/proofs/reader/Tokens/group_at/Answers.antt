@@ -1,9 +1,8 @@
-use Rattle.std.proofs.Common.{◌≡◌, ◌<◌, false, eqb, length, get_or, sym, subst, arith, ne_eqb}
+use Rattle.std.proofs.Common.{◌≡◌, ◌<◌, false, eqb, length, get_or, sym, subst, arith}
 use Rattle.lists.specs.Bytes.{group_byte}
 use Rattle.lists.specs.Lexemes.{TokenFault, is_blank}
 use Rattle.lists.proofs.Lexing.{name_missing, name_long, brace_missing, group_token}
 use Rattle.lists.proofs.reader.Tokens.group_at.Goals as goal
-use Rattle.lists.proofs.reader.Tokens.group_at.Goals.{then-close-text-via-then-close-text, then-close-text-via-else-close-text+then-text-close-ne125}
 
 pub returns-then-end-start : goal.returns-then-end-start
 returns-then-end-start c =
@@ -21,16 +20,16 @@ returns-then-end-start-gt-MAX_GROUP_NAME_BYTES c =
     subst (TokenFault self.text.now self.at) (sym c.at-then-end-start-gt-MAX_GROUP_NAME_BYTES.ensures)
     (name_long self.text.now self.at c.args.place c.requires.begins.gap c.requires.begins.inside c.run_end-start.result c.run_end-end.result c.requires.brace before names c.if-end-start-gt-MAX_GROUP_NAME_BYTES.true)
 
-pub returns-then-close-text : goal.returns-then-close-text
-returns-then-close-text c =
+pub returns-then-ne : goal.returns-then-ne
+returns-then-ne c =
     let self = c.args.self.now in
     let text = self.text.now in
     let close = c.run_end-close.result in
     let before = c.run_end-start.ensures.run is_blank (λ b r e. e) in
     let names = c.run_end-end.ensures.run group_byte (λ b r e. e) in
     let after = c.run_end-close.ensures.run is_blank (λ b r e. e) in
-    let other : close < length text → eqb (get_or text close 0) 125 ≡ false = λ lt. elim c.then-close-text.branch [ then-close-text-via-then-close-text w ↦ absurd (omega (arith, w.if-close-text.true)) | then-close-text-via-else-close-text+then-text-close-ne125 w ↦ ne_eqb (get_or text close 0) 125 w.if-text-close-ne125.true ] in
-    subst (TokenFault text self.at) (sym c.at-then-close-text.ensures)
+    let other : close < length text → eqb (get_or text close 0) 125 ≡ false = λ lt. grind arith in
+    subst (TokenFault text self.at) (sym c.at-then-ne.ensures)
     (brace_missing text self.at c.args.place c.requires.begins.gap c.requires.begins.inside c.run_end-start.result c.run_end-end.result c.requires.brace before names c.if-end-start.false c.if-end-start-gt-MAX_GROUP_NAME_BYTES.false close after other)
 
 pub returns : goal.returns
@@ -41,5 +40,6 @@ returns c =
     let before = c.run_end-start.ensures.run is_blank (λ b r e. e) in
     let names = c.run_end-end.ensures.run group_byte (λ b r e. e) in
     let after = c.run_end-close.ensures.run is_blank (λ b r e. e) in
-    let inside : close < length text = omega (arith, c.run_end-close.ensures.within, c.if-close-text.false) in
-    group_token text self.at c.args.place c.requires.begins.gap c.requires.begins.inside c.run_end-start.result c.run_end-end.result c.requires.brace before names c.if-end-start.false c.if-end-start-gt-MAX_GROUP_NAME_BYTES.false close after inside c.if-text-close-ne125.false
+    let inside : close < length text = grind arith in
+    let closes : get_or text close 0 ≡ 125 = grind arith in
+    group_token text self.at c.args.place c.requires.begins.gap c.requires.begins.inside c.run_end-start.result c.run_end-end.result c.requires.brace before names c.if-end-start.false c.if-end-start-gt-MAX_GROUP_NAME_BYTES.false close after inside closes
