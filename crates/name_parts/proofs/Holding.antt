@@ -28,12 +28,12 @@ pub held_few : (text : List ℕ) (o : Outline) → ∥ LawfulName text ∥₁ �
 held_few text o lawful outline = let (ps, name) = lawful_name text lawful in omega (arith, (outline ps name).all, name.few)
 
 -- the runs of words joined by dots are the partial names
-pub held_partial : (text : List ℕ) (o : Outline) (r : Runs) → OutlineOf text o → r.count ≡ min ((count_of o) + 1) 64 → ((i j : ℕ) → Ends r i j ↔ DottedWords (min ((count_of o) + 1) 64) o.words.digits o.dots.digits i j) → PartialNames text r
+pub held_partial : (text : List ℕ) (o : Outline) (r : Runs) → OutlineOf text o → r.count ≡ min ((count_of o) + 1) 64 → ((i j : ℕ) → Ends r i j ↔ DottedWords (min ((count_of o) + 1) 64) o.words.digits (mark_places o Dot).digits i j) → PartialNames text r
 held_partial text o r outline counted ends ps name =
     let whole = outline ps name in
     let count : min ((count_of o) + 1) 64 ≡ length ps + 1 = omega (arith, whole.all, name.few) in
     let see : (Kind : ℕ → Type 0) (d : ℕ) → Sees Kind (count_of o) d → ((i : ℕ) → Kind i → i < length ps) → (i : ℕ) → Has d i ↔ Kind i = λ Kind d sees inside i. (λ h. ((sees i).0 h).1, λ k. (sees i).1 (omega (arith, inside i k, whole.all), k)) in
-    let spans = dotted_spans ps (lawful_word (alternates name.form)) name.few (min ((count_of o) + 1) 64) o.words.digits o.dots.digits count (see (WordAt ps) o.words.digits whole.outlined.words (λ i a. a.1.inside)) (see (PartAt ps dot) o.dots.digits (whole.outlined.marks Dot) (λ i a. a.inside)) in
+    let spans = dotted_spans ps (lawful_word (alternates name.form)) name.few (min ((count_of o) + 1) 64) o.words.digits (mark_places o Dot).digits count (see (WordAt ps) o.words.digits whole.outlined.words (λ i a. a.1.inside)) (see (PartAt ps dot) (mark_places o Dot).digits (whole.outlined.marks Dot) (λ i a. a.inside)) in
     record { counted = counted ∙ count; ends = λ i j. (λ e. (spans i j).0 ((ends i j).0 e), λ s. (ends i j).1 ((spans i j).1 s)) }
 
 -- what is merely known of partial names is known

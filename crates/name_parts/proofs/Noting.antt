@@ -1,21 +1,24 @@
 -- An outline with one more part.
-use Rattle.std.proofs.Common.{◌≡◌, ℕ, ◌+◌, ◌<◌, ◌≢◌, ◌⊎◌, ◌↔◌, List, [], ◌∷◌, ◌++◌, length, get_or, sym, refl, ap, ◌∙◌, subst, inl, inr, ⊎_elim, arith, length-append, below_more}
+use Rattle.std.proofs.Common.{◌≡◌, ℕ, ◌+◌, ◌<◌, ◌≢◌, ◌⊎◌, ◌↔◌, List, [], ◌∷◌, ◌++◌, length, get_or, set, sym, refl, ap, ◌∙◌, subst, inl, inr, ⊎_elim, arith, length-append, below_more, get_or-set_same, get_or-set_other}
 use Rattle.std.proofs.Math.Seq.{get_or-append_seam}
 use Rattle.std.proofs.lemmas.List.{get_or_append_left}
 use Rattle.std.proofs.lemmas.Bool.{cases_eq}
+use denote.Enum.Declared.{tag_of}
 use Rattle.arrayvec.specs.ArrayVec.{ArrayVec}
 use Rattle.names.specs.declared.part.Part.{Part as WalkedPart}
 use Rattle.names.specs.Names.{Part, word, dot, at, plus}
 use Rattle.names.specs.Parts.{part_of}
 use Rattle.positions.specs.declared.Positions.{Positions}
 use Rattle.positions.specs.Places.{Has}
+use Rattle.positions.specs.Rows.{row_at}
+use Rattle.name_parts.specs.contracts.mark.Mark.{the_type}
 use Rattle.name_parts.specs.declared.mark.Mark.{Mark}
 use Rattle.name_parts.specs.declared.mark.Mark.TheVariants.{Dot, At, Plus}
 use Rattle.name_parts.specs.declared.outline.Outline.{Outline}
-use Rattle.name_parts.specs.Marks.{part_of_mark}
+use Rattle.name_parts.specs.Marks.{part_of_mark, number_of}
 use Rattle.name_parts.specs.Slices.{PartAt}
 use Rattle.name_parts.specs.Outlines.{WordAt, start_of, Sees, count_of, mark_places, Outlined, Noted}
-use Rattle.name_parts.proofs.Standing.{kind, part_apart}
+use Rattle.name_parts.proofs.Standing.{decode, decode_code, kind, part_apart}
 
 module _ (Kind : ℕ → Type 0) (n d : ℕ) (sees : Sees Kind n d) where
   -- the next place is of the kind
@@ -39,11 +42,30 @@ starts_more ps starts starts' start more here before =
     (λ i less. ap (λ l. get_or l i 0) more ∙ get_or_append_left starts (start ∷ []) 0 i less ∙ before i less)
     (ap (λ l. get_or l (length starts) 0) more ∙ get_or-append_seam starts start [] 0 ∙ here)
 
--- a mark is no word
-mark_apart : (m : Mark) → kind (part_of_mark m) ≡ 0 → ⊥
-mark_apart Dot e = omega arith
-mark_apart At e = omega arith
-mark_apart Plus e = omega arith
+-- a mark cast to a number
+pub tagged : (m : Mark) → tag_of the_type m ≡ number_of m
+tagged Dot = refl
+tagged At = refl
+tagged Plus = refl
+
+kind_of_mark : (m : Mark) → kind (part_of_mark m) ≡ number_of m + 1
+kind_of_mark Dot = refl
+kind_of_mark At = refl
+kind_of_mark Plus = refl
+
+number_below : (m : Mark) → number_of m < 3
+number_below Dot = omega arith
+number_below At = omega arith
+number_below Plus = omega arith
+
+-- marks of one number are the same part
+mark_decoded : (m : Mark) → decode ((number_of m + 1) ∷ []) ≡ part_of_mark m
+mark_decoded Dot = decode_code dot
+mark_decoded At = decode_code at
+mark_decoded Plus = decode_code plus
+
+same_mark : (m k : Mark) → number_of m ≡ number_of k → part_of_mark m ≡ part_of_mark k
+same_mark m k e = sym (mark_decoded m) ∙ ap (λ n. decode ((n + 1) ∷ [])) e ∙ mark_decoded k
 
 -- a place is put into a set
 abbrev pub Inserted : ℕ → ℕ → ℕ → Type 0
@@ -52,13 +74,11 @@ Inserted d n d' = (j : ℕ) → Has d' j ↔ (Has d j ⊎ ((j ≡ n) × (n < 64)
 module _ (o : Outline) (start : ℕ) (starts : ArrayVec ℕ) (more : starts.items ≡ o.starts.items ++ (start ∷ [])) where
   -- an outline with one more start, and other places of words
   abbrev pub with_word : Positions → Outline
-  with_word words = record { starts = starts; words = words; dots = o.dots; ats = o.ats; pluses = o.pluses }
+  with_word words = record { starts = starts; words = words; marks = o.marks }
 
-  -- an outline with one more start, and other places of a mark
-  abbrev pub with_mark : Mark → Positions → Outline
-  with_mark Dot places = record { starts = starts; words = o.words; dots = places; ats = o.ats; pluses = o.pluses }
-  with_mark At places = record { starts = starts; words = o.words; dots = o.dots; ats = places; pluses = o.pluses }
-  with_mark Plus places = record { starts = starts; words = o.words; dots = o.dots; ats = o.ats; pluses = places }
+  -- an outline with one more start, and other places of the mark of a number
+  abbrev pub with_mark : ℕ → Positions → Outline
+  with_mark n places = record { starts = starts; words = o.words; marks = set o.marks n places }
 
   one_more : length starts.items ≡ count_of o + 1
   one_more = ap length more ∙ length-append o.starts.items (start ∷ [])
@@ -87,44 +107,30 @@ module _ (o : Outline) (start : ℕ) (starts : ArrayVec ℕ) (more : starts.item
       more = one_more;
       outlined = λ ps was at-it begins.
           let here : PartAt ps (word w) (count_of o) = subst (λ p. PartAt ps p (count_of o)) is at-it in
-          let kept : (m : Mark) → Sees (PartAt ps (part_of_mark m)) (count_of o + 1) (mark_places o m).digits = λ m. no_mark ps (word w) was here begins m (λ e. mark_apart m (sym e)) in
           outlined_more ps (word w) was here begins (with_word words) refl
           (sees_hit (WordAt ps) (count_of o) o.words.digits was.words words.digits lt (w, here) grown)
-          (same_marks ps words kept);
+          (λ m. no_mark ps (word w) was here begins m (λ e. omega (arith, kind_of_mark m, e)));
     }
-      where
-        same_marks : (ps : List Part) (words : Positions) → ((m : Mark) → Sees (PartAt ps (part_of_mark m)) (count_of o + 1) (mark_places o m).digits) → (m : Mark) → Sees (PartAt ps (part_of_mark m)) (count_of o + 1) (mark_places (with_word words) m).digits
-        same_marks ps words kept Dot = kept Dot
-        same_marks ps words kept At = kept At
-        same_marks ps words kept Plus = kept Plus
 
-    pub note_mark : (mark : Mark) (places : Positions) → part_of part ≡ part_of_mark mark → Inserted (mark_places o mark).digits (count_of o) places.digits → Noted o start part (with_mark mark places)
-    note_mark mark places is grown = record {
-      more = ap (λ s. length s.items) (same_starts mark) ∙ one_more;
+    pub note_mark : (mark : Mark) (n : ℕ) (places : Positions) → part_of part ≡ part_of_mark mark → n ≡ number_of mark → length o.marks ≡ 3 → Inserted (row_at o.marks n).digits (count_of o) places.digits → Noted o start part (with_mark n places)
+    note_mark mark n places is numbered room grown = record {
+      more = one_more;
       outlined = λ ps was at-it begins.
           let here : PartAt ps (part_of_mark mark) (count_of o) = subst (λ p. PartAt ps p (count_of o)) is at-it in
-          outlined_more ps (part_of_mark mark) was here begins (with_mark mark places) (same_starts mark)
-          (subst (λ d. Sees (WordAt ps) (count_of o + 1) d) (same_words mark) (no_word ps (part_of_mark mark) was here begins (mark_apart mark)))
-          (seen ps was mark here begins grown);
+          outlined_more ps (part_of_mark mark) was here begins (with_mark n places) refl
+          (no_word ps (part_of_mark mark) was here begins (λ e. omega (arith, kind_of_mark mark)))
+          (seen ps was here begins);
     }
       where
-        same_starts : (m : Mark) → (with_mark m places).starts ≡ starts
-        same_starts Dot = refl
-        same_starts At = refl
-        same_starts Plus = refl
+        Seen : List Part → Mark → Positions → Type 0
+        Seen ps k s = Sees (PartAt ps (part_of_mark k)) (count_of o + 1) s.digits
 
-        same_words : (m : Mark) → o.words.digits ≡ (with_mark m places).words.digits
-        same_words Dot = refl
-        same_words At = refl
-        same_words Plus = refl
-
-        seen : (ps : List Part) → Outlined ps o → (m : Mark) → PartAt ps (part_of_mark m) (count_of o) → start ≡ start_of ps (count_of o) → Inserted (mark_places o m).digits (count_of o) places.digits → (k : Mark) → Sees (PartAt ps (part_of_mark k)) (count_of o + 1) (mark_places (with_mark m places) k).digits
-        seen ps was Dot here begins grown Dot = sees_hit (PartAt ps dot) (count_of o) o.dots.digits (was.marks Dot) places.digits lt here grown
-        seen ps was Dot here begins grown At = no_mark ps dot was here begins At (λ e. omega arith)
-        seen ps was Dot here begins grown Plus = no_mark ps dot was here begins Plus (λ e. omega arith)
-        seen ps was At here begins grown Dot = no_mark ps at was here begins Dot (λ e. omega arith)
-        seen ps was At here begins grown At = sees_hit (PartAt ps at) (count_of o) o.ats.digits (was.marks At) places.digits lt here grown
-        seen ps was At here begins grown Plus = no_mark ps at was here begins Plus (λ e. omega arith)
-        seen ps was Plus here begins grown Dot = no_mark ps plus was here begins Dot (λ e. omega arith)
-        seen ps was Plus here begins grown At = no_mark ps plus was here begins At (λ e. omega arith)
-        seen ps was Plus here begins grown Plus = sees_hit (PartAt ps plus) (count_of o) o.pluses.digits (was.marks Plus) places.digits lt here grown
+        seen : (ps : List Part) → Outlined ps o → PartAt ps (part_of_mark mark) (count_of o) → start ≡ start_of ps (count_of o) → (k : Mark) → Seen ps k (mark_places (with_mark n places) k)
+        seen ps was here begins k =
+            ⊎_elim
+            (λ (e : number_of k ≡ n).
+            let this : number_of k ≡ number_of mark = e ∙ numbered in
+            let hit = sees_hit (PartAt ps (part_of_mark k)) (count_of o) (mark_places o k).digits (was.marks k) places.digits lt (subst (λ p. PartAt ps p (count_of o)) (sym (same_mark k mark this)) here) (subst (λ i. Inserted (row_at o.marks i).digits (count_of o) places.digits) (sym e) grown) in
+            subst (Seen ps k) (sym (ap (row_at (set o.marks n places)) e ∙ get_or-set_same o.marks n places _ (omega (arith, room, numbered, number_below mark)))) hit)
+            (λ (other : number_of k ≢ n). subst (Seen ps k) (sym (get_or-set_other o.marks n (number_of k) places _ other)) (no_mark ps (part_of_mark mark) was here begins k (λ e. other (omega (arith, e, kind_of_mark mark, kind_of_mark k, numbered)))))
+            (cases_eq (number_of k) n)

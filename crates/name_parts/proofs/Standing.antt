@@ -17,14 +17,14 @@ code dot = 1 ∷ []
 code at = 2 ∷ []
 code plus = 3 ∷ []
 
-decode : List ℕ → Part
+pub decode : List ℕ → Part
 decode [] = dot
 decode (zero ∷ w) = word w
 decode (suc zero ∷ w) = dot
 decode (suc (suc zero) ∷ w) = at
 decode (suc (suc (suc n)) ∷ w) = plus
 
-decode_code : (p : Part) → decode (code p) ≡ p
+pub decode_code : (p : Part) → decode (code p) ≡ p
 unfolding decode
 decode_code (word w) = refl
 decode_code dot = refl

@@ -5,10 +5,10 @@ use Rattle.names.specs.Names.{Part, word, bytes_of, spell, IsName}
 use Rattle.names.specs.Parts.{part_of}
 use Rattle.positions.specs.declared.Positions.{Positions}
 use Rattle.positions.specs.Places.{Has}
+use Rattle.positions.specs.Rows.{row_at}
 use Rattle.name_parts.specs.declared.mark.Mark.{Mark}
-use Rattle.name_parts.specs.declared.mark.Mark.TheVariants.{Dot, At, Plus}
 use Rattle.name_parts.specs.declared.outline.Outline.{Outline}
-use Rattle.name_parts.specs.Marks.{part_of_mark}
+use Rattle.name_parts.specs.Marks.{part_of_mark, number_of}
 use Rattle.name_parts.specs.Slices.{PartAt}
 
 -- some word is at a place
@@ -29,9 +29,7 @@ count_of o = length o.starts.items
 
 -- the set of the places of a mark
 abbrev pub mark_places : Outline → Mark → Positions
-mark_places o Dot = o.dots
-mark_places o At = o.ats
-mark_places o Plus = o.pluses
+mark_places o m = row_at o.marks (number_of m)
 
 -- the outline of the first parts of a row
 pub record Outlined (ps : List Part) (o : Outline) : Type 0 where

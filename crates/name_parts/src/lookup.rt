@@ -21,7 +21,11 @@ impl<'a> NameParts<'a> {
         ensures { text_of result ≡ shown name.now.text }
     {
         let outline = Outline::of(name);
-        let partial = dotted_words(outline.starts.len() + 1, outline.words, outline.dots);
+        let partial = dotted_words(
+            outline.starts.len() + 1,
+            outline.words,
+            outline.marks[Mark::Dot as usize],
+        );
         NameParts {
             text: name.as_bytes(),
             outline,
@@ -40,11 +44,7 @@ impl<'a> NameParts<'a> {
     pub fn marks(&self, mark: Mark) -> Positions
         ensures { PlacesOf (text_of self.now) (part_of_mark mark) result.digits }
     {
-        match mark {
-            Mark::Dot => self.outline.dots,
-            Mark::At => self.outline.ats,
-            Mark::Plus => self.outline.pluses,
-        }
+        self.outline.marks[mark as usize]
     }
 
     /// Those of some places that have this word.

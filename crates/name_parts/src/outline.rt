@@ -1,8 +1,11 @@
 //! What a walk over a name notes of its parts.
 ghost use Rattle.std.specs.Prelude.{◌<◌};
 ghost use Rattle.texts.specs.Shown.{shown};
+ghost use Rattle.names.specs.Parts.{part_of};
+ghost use Rattle.name_parts.specs.Marks.{MarkOf};
 ghost use Rattle.name_parts.specs.Outlines.{count_of, Blank, Noted, OutlineOf};
 
+use super::mark::{MARKS, Mark};
 use arrayvec::ArrayVec;
 use names::name::Name;
 use names::part::Part;
@@ -13,10 +16,19 @@ use positions::{PLACES, Positions};
 pub(crate) struct Outline {
     pub(crate) starts: ArrayVec<usize, PLACES>,
     pub(crate) words: Positions,
-    // A field for each mark: an array would want one more `match`, from a mark to its number.
-    pub(crate) dots: Positions,
-    pub(crate) ats: Positions,
-    pub(crate) pluses: Positions,
+    pub(crate) marks: [Positions; MARKS],
+}
+
+// The mark that a part is; a word is none.
+fn mark_of(part: Part<'_>) -> Option<Mark>
+    ensures { MarkOf (part_of part.entry) result }
+{
+    match part {
+        Part::Word(_) => None,
+        Part::Dot => Some(Mark::Dot),
+        Part::At => Some(Mark::At),
+        Part::Plus => Some(Mark::Plus),
+    }
 }
 
 impl Outline {
@@ -28,9 +40,7 @@ impl Outline {
         Outline {
             starts: ArrayVec::new(),
             words: nowhere,
-            dots: nowhere,
-            ats: nowhere,
-            pluses: nowhere,
+            marks: [nowhere; MARKS],
         }
     }
 
@@ -41,11 +51,9 @@ impl Outline {
     {
         let place = self.starts.len();
         self.starts.push(start);
-        match part {
-            Part::Word(_) => self.words = self.words.insert(place),
-            Part::Dot => self.dots = self.dots.insert(place),
-            Part::At => self.ats = self.ats.insert(place),
-            Part::Plus => self.pluses = self.pluses.insert(place),
+        match mark_of(part) {
+            None => self.words = self.words.insert(place),
+            Some(mark) => self.marks[mark as usize] = self.marks[mark as usize].insert(place),
         }
     }
 

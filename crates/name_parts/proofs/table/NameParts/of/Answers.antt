@@ -2,7 +2,8 @@ use Rattle.std.proofs.Common.{◌≡◌, ℕ, ◌+◌, min, ◌↔◌, List, sym
 use Rattle.runs.specs.Runs.{Ends}
 use Rattle.texts.specs.Shown.{shown}
 use Rattle.names.specs.Names.{LawfulName}
-use Rattle.name_parts.specs.Outlines.{count_of, OutlineOf}
+use Rattle.name_parts.specs.declared.mark.Mark.TheVariants.{Dot}
+use Rattle.name_parts.specs.Outlines.{count_of, mark_places, OutlineOf}
 use Rattle.name_parts.specs.Dotted.{DottedWords}
 use Rattle.name_parts.specs.Tables.{PartialNames}
 use Rattle.name_parts.proofs.Holding.{held_few, held_partial}
@@ -15,7 +16,7 @@ invariant_of-result c =
     let runs = c.dotted_words-partial in
     let Mere : List ℕ → Type 0 = λ t. ∥ LawfulName t ∥₁ in
     let same : text ≡ c.as_bytes.result.now = sym c.as_bytes.ensures in
-    let Dotted : ℕ → Type 0 = λ n. (i j : ℕ) → Ends runs.result i j ↔ DottedWords (min (n + 1) 64) o.words.digits o.dots.digits i j in
+    let Dotted : ℕ → Type 0 = λ n. (i j : ℕ) → Ends runs.result i j ↔ DottedWords (min (n + 1) 64) o.words.digits (mark_places o Dot).digits i j in
     let counted : runs.result.count ≡ min (count_of o + 1) 64 = runs.ensures.counted ∙ ap (λ n. min (n + 1) 64) c.len.ensures.value in
     record {
       few = held_few text o c.args.name.now.lawful c.of-outline.ensures;
