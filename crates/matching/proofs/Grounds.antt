@@ -47,12 +47,16 @@ leads_both : {M : Name → Option (List ℕ)} {g h m : Name} → Leads M g h →
 leads_both here l = l
 leads_both (on n k) l = on n (leads_both k l)
 
+-- each name of the table has the text beside it
+abbrev pub HasTexts : Table → Type 0
+HasTexts table = (k : ℕ) → k < length table → text_of table (get_or (names_of table) k []) ≡ Some (get_or (texts_of table) k [])
+
 -- what follows from the statements themselves
 module _ {list : List ℕ} {table : Table} (whole : Whole list table) where
   all_read : ReadTo (text_of table) list (length (names_of table) + 1) (names_of table)
   all_read = subst (λ n. ReadTo (text_of table) list (n + 1) (names_of table)) (sym (length_names table)) whole.read
 
-  has_text : (k : ℕ) → k < length table → text_of table (get_or (names_of table) k []) ≡ Some (get_or (texts_of table) k [])
+  has_text : HasTexts table
   has_text k lt = text_held (λ g text. text_of table g ≡ Some text) table whole.texts k lt
 
   -- the group at a number names what the references of its text name
@@ -113,7 +117,7 @@ texts_lawful (g ∷ gs) (l ∷ ls) (suc k) lt = texts_lawful gs ls k (omega arit
 
 -- what is known of an opened list, by the links that tell which group leads to which
 pub record Grounds (list : List ℕ) (table : Table) (leads : Links) : Type 0 where
-  pub texts : (k : ℕ) → k < length table → text_of table (get_or (names_of table) k []) ≡ Some (get_or (texts_of table) k [])
+  pub texts : HasTexts table
   pub lawful : (k : ℕ) → k < length table → LawfulList (get_or (texts_of table) k [])
   pub once : Distinct (names_of table)
   pub list_names : (rs : List Reference) (g : Name) → Refers list rs → Named rs g → Known (names_of table) g

@@ -3,7 +3,9 @@ use Rattle.std.proofs.Common.{◌≡◌, ℕ, ◌⊎◌, List, [], ◌∷◌, �
 use Rattle.std.specs.List.{AllByRecursion}
 use Rattle.lists.specs.Trees.{Atom, Sign, atom, group, open_bracket, close_bracket, star, bar, Item, plain, bracket, starred, named, Seq, one, then, Alts, only, or, Tree, empty, list, item_signs, seq_signs, alts_signs}
 use Rattle.lists.specs.Texts.{tree_signs}
+use Rattle.lists.proofs.UniqueTree.{puts, puts_fresh, puts_barred}
 use Rattle.lists.proofs.Build.{Level, fresh, barred, full, put, star_alts}
+use Rattle.derivations.proofs.Elements.{every_front, every_back}
 use Rattle.derivations.specs.References.{item_groups, seq_groups, alts_groups, tree_groups}
 
 -- the signs that are left make the tree, and each group that they name has a property
@@ -15,25 +17,6 @@ pub data Left (P : List ℕ → Type 0) (t : Tree) : Level → List Sign → Typ
   bracket_next : {u : Level} {q : List Sign} (m : Alts) (r : List Sign) → AllByRecursion P (alts_groups m) → q ≡ alts_signs m ++ (close_bracket ∷ r) → Left P t (put u (bracket m)) r → Left P t u (open_bracket ∷ q)
   star_next : {a : Alts} {r : List Sign} → Left P t (full (star_alts a)) r → Left P t (full a) (star ∷ r)
   bar_next : {a : Alts} {r : List Sign} → Left P t (barred a) r → Left P t (full a) (bar ∷ r)
-
--- each item of a sequence put in order
-abbrev puts : Level → Seq → Level
-puts u (one x) = put u x
-puts u (then s x) = put (puts u s) x
-
--- the items of a sequence make it, on a fresh level or behind a bar
-puts_fresh : (s : Seq) → puts fresh s ≡ full (only s)
-puts_fresh (one x) = refl
-puts_fresh (then s x) = ap (λ u. put u x) (puts_fresh s)
-
-puts_barred : (l : Alts) (s : Seq) → puts (barred l) s ≡ full (or l s)
-puts_barred l (one x) = refl
-puts_barred l (then s x) = ap (λ u. put u x) (puts_barred l s)
-
--- what holds of each of two rows in order holds of each row
-every_split : {X : Type 0} (P : X → Type 0) (xs ys : List X) → AllByRecursion P (xs ++ ys) → AllByRecursion P xs × AllByRecursion P ys
-every_split P [] ys h = (tt, h)
-every_split P (x ∷ xs) ys h = let (front, back) = every_split P xs ys h.1 in ((h.0, front), back)
 
 module _ (P : List ℕ → Type 0) (t : Tree) where
   -- a star behind an item that was put last
@@ -54,13 +37,15 @@ module _ (P : List ℕ → Type 0) (t : Tree) where
     left_seq : (u : Level) (s : Seq) (r : List Sign) → AllByRecursion P (seq_groups s) → Left P t (puts u s) r → Left P t u (seq_signs s ++ r)
     left_seq u (one x) r h n = left_item u x r h n
     left_seq u (then s x) r h n =
-        let (front, back) = every_split P (seq_groups s) (item_groups x) h in
+        let front = every_front P (seq_groups s) (item_groups x) h in
+        let back = every_back P (seq_groups s) (item_groups x) h in
         subst (Left P t u) (sym (append_assoc (seq_signs s) (item_signs x) r)) (left_seq u s (item_signs x ++ r) front (left_item (puts u s) x r back n))
 
     left_alts : (l : Alts) (r : List Sign) → AllByRecursion P (alts_groups l) → Left P t (full l) r → Left P t fresh (alts_signs l ++ r)
     left_alts (only s) r h n = left_seq fresh s r h (subst (λ u. Left P t u r) (sym (puts_fresh s)) n)
     left_alts (or l s) r h n =
-        let (front, back) = every_split P (alts_groups l) (seq_groups s) h in
+        let front = every_front P (alts_groups l) (seq_groups s) h in
+        let back = every_back P (alts_groups l) (seq_groups s) h in
         subst (Left P t fresh) (sym (append_assoc (alts_signs l) (bar ∷ seq_signs s) r)) (left_alts l (bar ∷ (seq_signs s ++ r)) front (bar_next (left_seq (barred l) s r back (subst (λ u. Left P t u r) (sym (puts_barred l s)) n))))
 
 -- before anything has been read all the signs of the tree are left

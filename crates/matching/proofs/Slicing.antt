@@ -14,10 +14,6 @@ slice_length ps i j le = simp (length-take, length-drop) (omega arith)
 pub slice_all : (ps : List Part) → slice_range ps 0 (length ps) ≡ ps
 slice_all ps = take_all (length ps - 0) ps (omega arith)
 
--- no part
-pub slice_none : (ps : List Part) (i j : ℕ) → j ≡ i → slice_range ps i j ≡ []
-slice_none ps i j e = let none : j - i ≡ 0 = omega arith in rw none
-
 -- one part
 pub slice_one : (ps : List Part) (p : Part) (i j : ℕ) → j ≡ i + 1 → i < length ps → slice_range ps i j ≡ get_or ps i p ∷ []
 slice_one ps p i j e lt = let one : j - i ≡ 1 = omega arith in rw (one, drop-cons ps i p lt)

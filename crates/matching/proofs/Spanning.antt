@@ -10,7 +10,8 @@ use Rattle.name_parts.specs.Slices.{Spans, PartAt}
 use Rattle.derivations.specs.Derives.{AtomDerives, a_word, a_dot, an_at, a_plus, a_partial}
 use Rattle.derivations.specs.Derives.{ItemDerives, by_atom, by_bracket, no_runs, more_runs, by_group, SeqDerives, by_item, by_items}
 use Rattle.derivations.specs.Derives.{AltsDerives, by_only, by_earlier, by_last, TreeDerives, by_list}
-use Rattle.matching.proofs.Slicing.{slice_length, slice_all, slice_none, SpansRow, span_at, span_map, span_iff, span_cut, span_join, span_part}
+use Rattle.name_parts.proofs.Joining.{slice_none}
+use Rattle.matching.proofs.Slicing.{slice_length, slice_all, SpansRow, span_at, span_map, span_iff, span_cut, span_join, span_part}
 
 -- all the parts are such a run
 pub span_whole : {ps : List Part} {D : List Part → Type 0} → Spans ps D 0 (length ps) ↔ D ps
@@ -86,7 +87,7 @@ module _ {Same : List ℕ → List ℕ → Type 0} {ps : List Part} {i j : ℕ} 
         cut k n qs h (more_runs {ps = fs} {qs = rs} d e) = let (m, a, b) = span_cut fs rs h d refl in further m a (cut m n rs b e)
 
         join : (k n : ℕ) → k ≤ length ps → Reach (Spans ps (ItemDerives Same Group x)) k n → Spans ps (ItemDerives Same Group (starred x)) k n
-        join k n le (done e) = record { forward = omega arith; within = omega arith; run = subst (ItemDerives Same Group (starred x)) (sym (slice_none ps k n e)) no_runs }
+        join k n le (done e) = record { forward = omega arith; within = omega arith; run = subst (ItemDerives Same Group (starred x)) (sym (slice_none ps k n (omega arith))) no_runs }
         join k n le (further m a r) = span_join (λ qs rs. more_runs) a (join m n a.within r)
 
     -- a group's name that stands for one tree derives what the tree derives

@@ -34,10 +34,6 @@ an_atom Star o c s b g = absurd (s refl)
 an_atom Bar o c s b g = absurd (b refl)
 an_atom (Group n) o c s b g = absurd (g n refl)
 
--- a step of the walk, at a text that is known by another name
-pub walked : {text here text' : List ℕ} {at at' : ℕ} {given : Option Lexeme} → text ≡ here → Walks text at given text' at' → Walks here at given text' at'
-walked {text' = text'} {at = at} {at' = at'} {given = given} e w = subst (λ t. Walks t at given text' at') e w
-
 -- at the text's end no token is left
 placed_end : {text text' : List ℕ} {at at' : ℕ} → Walks text at None text' at' → Placed text at' []
 placed_end {text} {at' = at'} w =

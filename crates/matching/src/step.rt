@@ -23,6 +23,7 @@ impl Step {
         ensures kept { runs.new.count ≡ runs.old.count }
         ensures ends { (i j : ℕ) → Ends runs.new i j ↔ Composed (Ends runs.old) (StepEnds self.now) i j }
     {
+        // Not `Relation` for `Step`: its `image` would hold the same three arms, once for each row.
         match self {
             Step::Part(places) => runs.advance(*places),
             Step::Runs(each) => runs.follow(each),
@@ -30,7 +31,7 @@ impl Step {
         }
     }
 
-    // The step as a relation from the first places.
+    // The step as a relation from the first places. Not a `From`, which could not take the places.
     fn into_runs(self, places: FirstPlaces) -> Runs
         ensures { StepCounted self places.count → StepRuns self places.count result }
     {

@@ -33,8 +33,8 @@ named_last [] r = inl refl
 named_last (x ∷ rs) r = inr (named_last rs r)
 
 -- a step of the walk, at a text that is known by another name
-pub walked : {text here text' : List ℕ} {at at' : ℕ} {given : Option Lexeme} → text ≡ here → Walks text at given text' at' → (left : List (ℕ × Sign)) → Placed here at left → MatchOption given (left ≡ []) (λ l. (rest : List (ℕ × Sign)) × ((left ≡ (l.place, sign l.token) ∷ rest) × Placed here at' rest))
-walked {at = at} {at' = at'} {given = given} e w = subst (λ t. (left : List (ℕ × Sign)) → Placed t at left → MatchOption given (left ≡ []) (λ l. (rest : List (ℕ × Sign)) × ((left ≡ (l.place, sign l.token) ∷ rest) × Placed t at' rest))) e w.token
+pub walked : {text here text' : List ℕ} {at at' : ℕ} {given : Option Lexeme} → text ≡ here → Walks text at given text' at' → Walks here at given text' at'
+walked {text' = text'} {at = at} {at' = at'} {given = given} e w = subst (λ t. Walks t at given text' at') e w
 
 -- The walk stands at a place: something holds of the references before it, and the tokens that are left lie ahead.
 pub record Passing (text : List ℕ) (Holds : List Reference → Type 0) (ps : List (ℕ × Sign)) (at : ℕ) : Type 0 where

@@ -1,7 +1,8 @@
 use Rattle.std.proofs.Common.{refl, ap, ◌∙◌, subst, arith}
 use Rattle.lists.specs.Lexemes.{sign}
 use Rattle.matching.specs.Judging.{Judges}
-use Rattle.matching.proofs.Walking.{an_atom, walked, courses_start, courses_atom, courses_group, courses_star, courses_bar, courses_bracket, courses_close, courses_end}
+use Rattle.openings.proofs.Walking.{walked}
+use Rattle.matching.proofs.Walking.{an_atom, courses_start, courses_atom, courses_group, courses_star, courses_bar, courses_bracket, courses_close, courses_end}
 use Rattle.matching.proofs.held.Judge.+judge.Goals as goal
 
 pub loop-lexeme-init : goal.loop-lexeme-init

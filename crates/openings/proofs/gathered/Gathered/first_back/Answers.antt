@@ -33,7 +33,7 @@ loop-lexeme-preserved-else-leads_back c =
       walks.kept ∙ c.loop-lexeme.invariant.2,
       λ ps p.
           let u = c.loop-lexeme.invariant.3 ps p in
-          let (rest, step) = walked c.loop-lexeme.invariant.2 walks u.left u.placed in
+          let (rest, step) = (walked c.loop-lexeme.invariant.2 walks).token u.left u.placed in
           pass_reference u rest (step.0 ∙ ap (λ t. (c.in-Some.lexeme.place, sign t) ∷ rest) c.in-Group.is) step.1
           (λ h n b. ⊎_elim (λ was. u.holds h was b) (λ e. no (subst Is (sym e) b)) (named_more u.done _ n)),
     )

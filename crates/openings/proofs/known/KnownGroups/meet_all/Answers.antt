@@ -35,7 +35,7 @@ loop-lexeme-preserved-in-Group g c =
       walks.kept ∙ c.loop-lexeme.invariant.2,
       λ ps p.
           let u = c.loop-lexeme.invariant.3 ps p in
-          let (rest, step) = walked c.loop-lexeme.invariant.2 walks u.left u.placed in
+          let (rest, step) = (walked c.loop-lexeme.invariant.2 walks).token u.left u.placed in
           pass_reference u rest (step.0 ∙ ap (λ t. (c.in-Some.lexeme.place, sign t) ∷ rest) c.in-Group.is) step.1 (one_met _ u.holds met.0 met.1 c.insert-named.ensures below),
     )
 
@@ -44,7 +44,7 @@ returns-in_err-k g c rs refers =
     let p = err_from_is_err_and c.from_residual.result c.from_residual.ensures.1 in
     let M = text_of (g.B.Book.table c.args.book.now) in
     let u = c.loop-lexeme.invariant.3 refers.tokens refers.placed in
-    let (rest, step) = walked c.loop-lexeme.invariant.2 c.in-Some.ensures.steps u.left u.placed in
+    let (rest, step) = (walked c.loop-lexeme.invariant.2 c.in-Some.ensures.steps).token u.left u.placed in
     let place = c.in-Some.lexeme.place in
     let all = refers.these ∙ pass_here u rest (step.0 ∙ ap (λ t. (place, sign t) ∷ rest) c.in-Group.is) in
     let source = err_source _ _ c.meet.result c.in_err-k.ensures.cases in
