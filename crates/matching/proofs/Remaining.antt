@@ -1,5 +1,5 @@
 -- From what has been read within a bracket, the signs that are left make a tree.
-use Rattle.std.proofs.Common.{◌≡◌, ℕ, ◌⊎◌, List, [], ◌∷◌, ◌++◌, sym, refl, ap, subst, inl, inr, append_assoc, append-nil}
+use Rattle.std.proofs.Common.{◌≡◌, ℕ, ◌⊎◌, List, [], ◌∷◌, ◌++◌, sym, refl, subst, inl, inr, append_assoc, append-nil}
 use Rattle.std.specs.List.{AllByRecursion}
 use Rattle.lists.specs.Trees.{Atom, Sign, atom, group, open_bracket, close_bracket, star, bar, Item, plain, bracket, starred, named, Seq, one, then, Alts, only, or, Tree, empty, list, item_signs, seq_signs, alts_signs}
 use Rattle.lists.specs.Texts.{tree_signs}

@@ -1,9 +1,8 @@
 -- Meeting the references of a text while its tokens are walked.
-use Rattle.std.proofs.Common.{◌≡◌, ℕ, ◌<◌, ◌⊎◌, ◌↔◌, List, [], ◌∷◌, ◌++◌, Option, sym, refl, ap, ◌∙◌, subst, inl, inr, ⊎_elim, append_assoc, MatchOption}
+use Rattle.std.proofs.Common.{◌≡◌, ℕ, ◌<◌, ◌⊎◌, ◌↔◌, List, [], ◌∷◌, ◌++◌, Option, sym, refl, ap, ◌∙◌, subst, inl, inr, ⊎_elim, append_assoc}
 use Rattle.positions.specs.Places.{Has}
 use Rattle.lists.specs.Trees.{Sign, group}
 use Rattle.lists.specs.declared.token.Lexeme.{Lexeme}
-use Rattle.lists.specs.Lexemes.{sign}
 use Rattle.lists.specs.Placed.{Placed, Walks}
 use Rattle.openings.specs.References.{Reference, references_of}
 use Rattle.openings.specs.Opening.{Name, Meaning, Numbered, Meets, again, new, met, meet}
