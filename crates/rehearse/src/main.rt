@@ -35,69 +35,87 @@ fn verdict(book: &TableBook<'_>, name: &[u8], list: &[u8]) -> Result<&'static st
     Ok(if derives(&opened, &name) { "yes" } else { "no" })
 }
 
-fn refuse(out: &mut impl Write, fault: Fault) -> io::Result<()> {
-    writeln!(out, "refused {fault}")
+// A run over a script: where the answers go, and the book that the calls change.
+#[derive(Drop)]
+struct Rehearsal<'r, W: Write + Drop> {
+    out: W,
+    book: TableBook<'r>,
 }
 
-// Answers a call with what it gives, or with its fault.
-fn answer_with(out: &mut impl Write, given: Result<impl Display + Drop, Fault>) -> io::Result<()> {
-    match given {
-        Ok(given) => writeln!(out, "{given}"),
-        Err(fault) => refuse(out, fault),
+impl<'r, W: Write + Drop> Rehearsal<'r, W> {
+    fn refuse(&mut self, fault: Fault) -> io::Result<()> {
+        writeln!(self.out, "refused {fault}")
     }
-}
 
-// Writes the names of the groups that the list reaches, in the order of opening.
-fn write_names(out: &mut impl Write, opened: &Opened) -> io::Result<()> {
-    write!(out, "open")?;
-    for name in opened.names() {
-        write!(out, " ")?;
-        out.write_all(name.as_bytes())?;
+    // Answers a call with what it gives, or with its fault.
+    fn answer_with(&mut self, given: Result<impl Display + Drop, Fault>) -> io::Result<()> {
+        match given {
+            Ok(given) => writeln!(self.out, "{given}"),
+            Err(fault) => self.refuse(fault),
+        }
     }
-    writeln!(out)
-}
 
-fn answer_call(out: &mut impl Write, book: &mut TableBook<'_>, call: Call<'_>) -> io::Result<()> {
-    match call {
-        Call::Name(text) => answer_with(
-            out,
-            Name::new(text).map(|name| PartCount(name.part_count())),
-        ),
-        Call::Path(text) => answer_with(out, Path::new(text).map(|_| "path")),
-        Call::List(text) => answer_with(out, AccessList::new(text).map(|_| "list")),
-        Call::Group(name, text) => answer_with(out, book.add(name, text).map(|_| "group")),
-        Call::Ungroup(name) => answer_with(out, book.remove(name).map(|_| "ungroup")),
-        // Not by `answer_with`: group names are bytes, and a `Display` writes text.
-        Call::Open(list) => match open(list, book) {
-            Ok(opened) => write_names(out, &opened),
-            Err(fault) => refuse(out, fault),
-        },
-        Call::Match(name, list) => answer_with(out, verdict(book, name, list)),
+    // Writes the names of the groups that the list reaches, in the order of opening.
+    fn write_names(&mut self, opened: &Opened) -> io::Result<()> {
+        write!(self.out, "open")?;
+        for name in opened.names() {
+            write!(self.out, " ")?;
+            self.out.write_all(name.as_bytes())?;
+        }
+        writeln!(self.out)
     }
-}
 
-fn answer(out: &mut impl Write, book: &mut TableBook<'_>, line: &[u8]) -> io::Result<()> {
-    match read_line(line) {
-        Ok(None) => Ok(()),
-        Ok(Some(call)) => answer_call(out, book, call),
-        Err(NotUnderstood) => writeln!(out, "not understood"),
+    fn answer_call(&mut self, call: Call<'_>) -> io::Result<()> {
+        match call {
+            Call::Name(text) => {
+                self.answer_with(Name::new(text).map(|name| PartCount(name.part_count())))
+            }
+            Call::Path(text) => self.answer_with(Path::new(text).map(|_| "path")),
+            Call::List(text) => self.answer_with(AccessList::new(text).map(|_| "list")),
+            Call::Group(name, text) => {
+                let added = self.book.add(name, text);
+                self.answer_with(added.map(|_| "group"))
+            }
+            Call::Ungroup(name) => {
+                let removed = self.book.remove(name);
+                self.answer_with(removed.map(|_| "ungroup"))
+            }
+            // Not by `answer_with`: group names are bytes, and a `Display` writes text.
+            Call::Open(list) => match open(list, &self.book) {
+                Ok(opened) => self.write_names(&opened),
+                Err(fault) => self.refuse(fault),
+            },
+            Call::Match(name, list) => {
+                let verdict = verdict(&self.book, name, list);
+                self.answer_with(verdict)
+            }
+        }
     }
-}
 
-// The last line need not end in a line end.
-fn rehearse(out: &mut impl Write, script: &[u8]) -> io::Result<()> {
-    let mut rows = [Group::spare(); TABLE_ROWS];
-    let mut book = TableBook::new(&mut rows);
-    for line in script.split(|b| *b == LINE_END) {
-        answer(out, &mut book, line)?;
+    fn answer(&mut self, line: &[u8]) -> io::Result<()> {
+        match read_line(line) {
+            Ok(None) => Ok(()),
+            Ok(Some(call)) => self.answer_call(call),
+            Err(NotUnderstood) => writeln!(self.out, "not understood"),
+        }
     }
-    Ok(())
+
+    // Answers each line, and flushes the answers. The last line need not end in a line end.
+    fn run(&mut self, script: &[u8]) -> io::Result<()> {
+        for line in script.split(|b| *b == LINE_END) {
+            self.answer(line)?;
+        }
+        self.out.flush()
+    }
 }
 
 fn main(rt: HostRuntime) -> io::Result<()> {
     let mut script = Vec::new(rt.alloc());
     rt.stdin().read_to_end(&mut script)?;
-    let mut out = BufWriter::new(rt.alloc(), rt.stdout())?;
-    rehearse(&mut out, script.as_slice())?;
-    out.flush()
+    let mut rows = [Group::spare(); TABLE_ROWS];
+    let mut rehearsal = Rehearsal {
+        out: BufWriter::new(rt.alloc(), rt.stdout())?,
+        book: TableBook::new(&mut rows),
+    };
+    rehearsal.run(script.as_slice())
 }
