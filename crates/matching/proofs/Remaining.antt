@@ -5,7 +5,7 @@ use Rattle.lists.specs.Trees.{Atom, Sign, atom, group, open_bracket, close_brack
 use Rattle.lists.specs.Texts.{tree_signs}
 use Rattle.lists.proofs.UniqueTree.{puts, puts_fresh, puts_barred}
 use Rattle.lists.proofs.Build.{Level, fresh, barred, full, put, star_alts}
-use Rattle.derivations.proofs.Elements.{every_front, every_back}
+use Rattle.lists.proofs.Elements.{every_front, every_back}
 use Rattle.derivations.specs.References.{item_groups, seq_groups, alts_groups, tree_groups}
 
 -- the signs that are left make the tree, and each group that they name has a property
