@@ -9,6 +9,7 @@ mod tests {
     use lists::token::{Lexeme, Token};
 
     // Whether the text is refused for a fault with this number, layer 2, text 0 and this place.
+    // Each crate of tests says by itself what it expects of a fault.
     fn list(text: &[u8], number: u8, place: usize) -> bool {
         AccessList::new(text).is_err_and(|fault| {
             fault.kind.number() == number
@@ -18,6 +19,7 @@ mod tests {
         })
     }
 
+    // Said anew in each crate of tests: none asks the code that it tests.
     fn is_word_byte(b: u8) -> bool {
         b.is_ascii_alphanumeric() || b == b'-' || b == b'_'
     }

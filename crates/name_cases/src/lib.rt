@@ -32,6 +32,7 @@ mod tests {
         array::from_fn(|i| if i % 2 == 1 { mark } else { b'a' })
     }
 
+    // Said anew in each crate of tests: none asks the code that it tests.
     fn is_word_byte(b: u8) -> bool {
         b.is_ascii_alphanumeric() || matches!(b, b'-' | b'_')
     }

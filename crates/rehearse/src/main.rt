@@ -65,6 +65,15 @@ impl<'r, W: Write + Drop> Rehearsal<'r, W> {
         writeln!(self.out)
     }
 
+    // Not by `answer_with`: group names are bytes, and a `Display` writes text. A function of its own, so that other
+    // calls do not pay for the room that an opened list takes.
+    fn answer_open(&mut self, list: &[u8]) -> io::Result<()> {
+        match open(list, &self.book) {
+            Ok(opened) => self.write_names(&opened),
+            Err(fault) => self.refuse(fault),
+        }
+    }
+
     fn answer_call(&mut self, call: Call<'_>) -> io::Result<()> {
         match call {
             Call::Name(text) => {
@@ -80,11 +89,7 @@ impl<'r, W: Write + Drop> Rehearsal<'r, W> {
                 let removed = self.book.remove(name);
                 self.answer_with(removed.map(|_| "ungroup"))
             }
-            // Not by `answer_with`: group names are bytes, and a `Display` writes text.
-            Call::Open(list) => match open(list, &self.book) {
-                Ok(opened) => self.write_names(&opened),
-                Err(fault) => self.refuse(fault),
-            },
+            Call::Open(list) => self.answer_open(list),
             Call::Match(name, list) => {
                 let verdict = verdict(&self.book, name, list);
                 self.answer_with(verdict)
