@@ -35,6 +35,7 @@ impl Relation for ClosedRuns {
 impl Runs {
     /// The image of starts from which a run after a run is a run.
     /// A start that is an end of another one then adds nothing.
+    // It stands beside `image` of `ClosedRuns`, since `closed` works with it while the relation is not closed yet.
     pub(crate) fn closed_image(&self, starts: Positions) -> Positions
         requires { (m k j : ℕ) → Has starts.digits m → Ends self.now m k → Ends self.now k j → Ends self.now m j }
         ensures { (j : ℕ) → Has result.digits j ↔ Image (Ends self.now) starts.digits j }
