@@ -90,11 +90,6 @@ read_list-read_bracket-requires t c =
     let e = same t (goal.at.read_list-read_bracket-requires t c).In-Some in
     (omega (arith, ap length e, on.forward, here.gap.forward, here.some, here.within), subst (λ u. BracketOpens u c.in-Some.lexeme.place c.next_token.new.self.at c.args.depth) (sym e) opens)
 
-pub read_list-returns-in_err-read_bracket-in-Open-clause-read : goal.read_list-returns-in_err-read_bracket-in-Open-clause-read
-read_list-returns-in_err-read_bracket-in-Open-clause-read t c =
-    let p = err_from_is_err_and c.from_residual-in_err-read_bracket-in-Open.result c.from_residual-in_err-read_bracket-in-Open.ensures.1 in
-    rw (p.1, p.2) (subst (λ u. Slip u c.in_err-read_bracket-in-Open.field-0.0) (same t (goal.at.read_list-returns-in_err-read_bracket-in-Open-clause-read t c).In-Some) c.in_err-read_bracket-in-Open.ensures.read)
-
 pub read_list-loop-lexeme-preserved-in-Open : goal.read_list-loop-lexeme-preserved-in-Open
 read_list-loop-lexeme-preserved-in-Open t c =
     let e = same t (goal.at.read_list-loop-lexeme-preserved-in-Open t c).In-Some in

@@ -26,11 +26,6 @@ returns-in_err-check_list c =
     let held = c.in_ok-held.ensures in
     record { answer = rw (p.1, p.2) (refuses text _ (slip held.0 c.in_err-check_list.ensures)); reading = unique_tree text }
 
-pub invariant_of-result : goal.invariant_of-result
-invariant_of-result c =
-    let held = c.in_ok-held.ensures in
-    record { lawful = ∣ subst LawfulList (sym held.1) (record { form = c.in_ok-check_list.ensures; short = held.0 }) ∣₁ }
-
 pub returns : goal.returns
 returns c =
     let text = c.args.text.now in

@@ -2,13 +2,8 @@ use Rattle.std.proofs.Common.{subst, arith}
 use denote.Enum.Declared.{tag_of}
 use Rattle.positions.specs.Rows.{row_at}
 use Rattle.name_parts.specs.contracts.mark.Mark.{the_type}
-use Rattle.name_parts.proofs.Noting.{Inserted, tagged, note_word, note_mark}
+use Rattle.name_parts.proofs.Noting.{Inserted, tagged, note_mark}
 use Rattle.name_parts.proofs.outline.Outline.note.Goals as goal
-
-pub returns-in-None : goal.returns-in-None
-returns-in-None c =
-    let o = c.args.self.now in
-    note_word o c.args.start c.push.new.self c.push.ensures.items c.requires c.args.part _ c.insert-self.result c.in-None.ensures.1 (subst (λ n. Inserted o.words.digits n c.insert-self.result.digits) c.len-place.ensures.value c.insert-self.ensures)
 
 pub returns-in-Some : goal.returns-in-Some
 returns-in-Some c =
