@@ -56,54 +56,54 @@ module _ (judge : Judge) (text : List ℕ) (start starts : ℕ) where
   pub courses_start : (reading : Reading) → Begins starts reading → Courses start reading
   courses_start reading b ps is tree ready tail closes qs placed these = course_start judge ps tree tail closes text starts start reading ready qs placed these b
 
-  module _ (at : ℕ) (reading : Reading) (before : Courses at reading) where
-    -- a token has been passed
-    module _ (lexeme : Lexeme) (text' : List ℕ) (at' : ℕ) (walks : Walks text at (Some lexeme) text' at') where
-      -- the tokens that were left begin with one that is known
-      tokens_are : {s : Sign} {rest left : List (ℕ × Sign)} → left ≡ (lexeme.place, sign lexeme.token) ∷ rest → sign lexeme.token ≡ s → left ≡ (lexeme.place, s) ∷ rest
-      tokens_are {rest = rest} e f = e ∙ ap (λ s. (lexeme.place, s) ∷ rest) f
+module _ {judge : Judge} {text : List ℕ} {start starts at : ℕ} {reading : Reading} (before : Courses judge text start starts at reading) where
+  -- a token has been passed
+  module _ {lexeme : Lexeme} {text' : List ℕ} {at' : ℕ} (walks : Walks text at (Some lexeme) text' at') where
+    -- the tokens that were left begin with one that is known
+    tokens_are : {s : Sign} {rest left : List (ℕ × Sign)} → left ≡ (lexeme.place, sign lexeme.token) ∷ rest → sign lexeme.token ≡ s → left ≡ (lexeme.place, s) ∷ rest
+    tokens_are {rest = rest} e f = e ∙ ap (λ s. (lexeme.place, s) ∷ rest) f
 
-      pub courses_atom : (a : Atom) (step : Step) (reading' : Reading) → sign lexeme.token ≡ atom a → ForParts judge (λ ps. StepMeans ps (AtomDerives exact a) step) → Pushed reading step reading' → Courses at' reading'
-      courses_atom a step reading' f means p ps is tree ready tail closes qs placed these =
-          let course = before ps is tree ready tail closes qs placed these in
-          let (rest, (e, there)) = walks.token course.rest course.placed in
-          course_atom judge ps tree tail closes text starts at reading course lexeme.place rest at' there reading' a step (tokens_are e f) (means ps is) p
-
-      pub courses_group : (g : List ℕ) (step : Step) (reading' : Reading) → sign lexeme.token ≡ Trees.group g → ((ps : List Part) → GroupReady judge ps g → StepMeans ps (ItemDerives exact (GroupOf (table_of judge)) (named g)) step) → Pushed reading step reading' → Courses at' reading'
-      courses_group g step reading' f means p ps is tree ready tail closes qs placed these =
-          let course = before ps is tree ready tail closes qs placed these in
-          let (rest, (e, there)) = walks.token course.rest course.placed in
-          course_group judge ps tree tail closes text starts at reading course lexeme.place rest at' there reading' g step (tokens_are e f) (means ps) p
-
-      pub courses_star : (places : ℕ) (reading' : Reading) → sign lexeme.token ≡ Trees.star → ForParts judge (λ ps. places ≡ length ps + 1) → Repeated reading places reading' → Courses at' reading'
-      courses_star places reading' f whole r ps is tree ready tail closes qs placed these =
-          let course = before ps is tree ready tail closes qs placed these in
-          let (rest, (e, there)) = walks.token course.rest course.placed in
-          course_star judge ps tree tail closes text starts at reading course lexeme.place rest at' there reading' (tokens_are e f) (subst (λ n. Repeated reading n reading') (whole ps is) r)
-
-      pub courses_bar : (reading' : Reading) → sign lexeme.token ≡ Trees.bar → Barred reading reading' → Courses at' reading'
-      courses_bar reading' f b ps is tree ready tail closes qs placed these =
-          let course = before ps is tree ready tail closes qs placed these in
-          let (rest, (e, there)) = walks.token course.rest course.placed in
-          course_bar judge ps tree tail closes text starts at reading course lexeme.place rest at' there reading' (tokens_are e f) b
-
-      pub courses_bracket : (places at'' : ℕ) (runs : Runs) (reading' : Reading) → sign lexeme.token ≡ Trees.open_bracket → ForParts judge (λ ps. places ≡ length ps + 1) → Judges judge text at' at'' places runs → Pushed reading (Each runs) reading' → Courses at'' reading'
-      courses_bracket places at'' runs reading' f whole judged p ps is tree ready tail closes qs placed these =
-          let course = before ps is tree ready tail closes qs placed these in
-          let (rest, (e, there)) = walks.token course.rest course.placed in
-          let inside = course_inside judge ps tree tail closes text starts at reading course lexeme.place rest (tokens_are e f) in
-          let tail' = close_bracket ∷ (inside.beyond ++ tail) in
-          let done = judged ps is (list inside.alts) inside.ready tail' refl rest there inside.these in
-          course_bracket judge ps tree tail closes text starts at reading course lexeme.place rest inside at'' runs reading' (subst (λ n. Judged judge ps (list inside.alts) n runs tail' text at'') (whole ps is) done) p
-
-      pub courses_close : (runs : Runs) → sign lexeme.token ≡ close_bracket → Finished reading runs → Judges judge text start at' starts runs
-      courses_close runs f finished ps is tree ready tail closes qs placed these =
-          let course = before ps is tree ready tail closes qs placed these in
-          let (rest, (e, there)) = walks.token course.rest course.placed in
-          course_close judge ps tree tail closes text starts at reading course runs finished lexeme.place rest at' (tokens_are e f) there
-
-    -- no token was left
-    pub courses_end : (text' : List ℕ) (at' : ℕ) (runs : Runs) → Walks text at None text' at' → Finished reading runs → Judges judge text start at' starts runs
-    courses_end text' at' runs walks finished ps is tree ready tail closes qs placed these =
+    pub courses_atom : (a : Atom) (step : Step) (reading' : Reading) → sign lexeme.token ≡ atom a → ForParts judge (λ ps. StepMeans ps (AtomDerives exact a) step) → Pushed reading step reading' → Courses judge text start starts at' reading'
+    courses_atom a step reading' f means p ps is tree ready tail closes qs placed these =
         let course = before ps is tree ready tail closes qs placed these in
-        course_end judge ps tree tail closes text starts at reading course runs finished at' (walks.token course.rest course.placed) (placed_end walks)
+        let (rest, (e, there)) = walks.token course.rest course.placed in
+        course_atom judge ps tree tail closes text starts at reading course lexeme.place rest at' there reading' a step (tokens_are e f) (means ps is) p
+
+    pub courses_group : (g : List ℕ) (step : Step) (reading' : Reading) → sign lexeme.token ≡ Trees.group g → ((ps : List Part) → GroupReady judge ps g → StepMeans ps (ItemDerives exact (GroupOf (table_of judge)) (named g)) step) → Pushed reading step reading' → Courses judge text start starts at' reading'
+    courses_group g step reading' f means p ps is tree ready tail closes qs placed these =
+        let course = before ps is tree ready tail closes qs placed these in
+        let (rest, (e, there)) = walks.token course.rest course.placed in
+        course_group judge ps tree tail closes text starts at reading course lexeme.place rest at' there reading' g step (tokens_are e f) (means ps) p
+
+    pub courses_star : (places : ℕ) (reading' : Reading) → sign lexeme.token ≡ Trees.star → ForParts judge (λ ps. places ≡ length ps + 1) → Repeated reading places reading' → Courses judge text start starts at' reading'
+    courses_star places reading' f whole r ps is tree ready tail closes qs placed these =
+        let course = before ps is tree ready tail closes qs placed these in
+        let (rest, (e, there)) = walks.token course.rest course.placed in
+        course_star judge ps tree tail closes text starts at reading course lexeme.place rest at' there reading' (tokens_are e f) (subst (λ n. Repeated reading n reading') (whole ps is) r)
+
+    pub courses_bar : (reading' : Reading) → sign lexeme.token ≡ Trees.bar → Barred reading reading' → Courses judge text start starts at' reading'
+    courses_bar reading' f b ps is tree ready tail closes qs placed these =
+        let course = before ps is tree ready tail closes qs placed these in
+        let (rest, (e, there)) = walks.token course.rest course.placed in
+        course_bar judge ps tree tail closes text starts at reading course lexeme.place rest at' there reading' (tokens_are e f) b
+
+    pub courses_bracket : (places at'' : ℕ) (runs : Runs) (reading' : Reading) → sign lexeme.token ≡ Trees.open_bracket → ForParts judge (λ ps. places ≡ length ps + 1) → Judges judge text at' at'' places runs → Pushed reading (Each runs) reading' → Courses judge text start starts at'' reading'
+    courses_bracket places at'' runs reading' f whole judged p ps is tree ready tail closes qs placed these =
+        let course = before ps is tree ready tail closes qs placed these in
+        let (rest, (e, there)) = walks.token course.rest course.placed in
+        let inside = course_inside judge ps tree tail closes text starts at reading course lexeme.place rest (tokens_are e f) in
+        let tail' = close_bracket ∷ (inside.beyond ++ tail) in
+        let done = judged ps is (list inside.alts) inside.ready tail' refl rest there inside.these in
+        course_bracket judge ps tree tail closes text starts at reading course lexeme.place rest inside at'' runs reading' (subst (λ n. Judged judge ps (list inside.alts) n runs tail' text at'') (whole ps is) done) p
+
+    pub courses_close : (runs : Runs) → sign lexeme.token ≡ close_bracket → Finished reading runs → Judges judge text start at' starts runs
+    courses_close runs f finished ps is tree ready tail closes qs placed these =
+        let course = before ps is tree ready tail closes qs placed these in
+        let (rest, (e, there)) = walks.token course.rest course.placed in
+        course_close judge ps tree tail closes text starts at reading course runs finished lexeme.place rest at' (tokens_are e f) there
+
+  -- no token was left
+  pub courses_end : {text' : List ℕ} {at' : ℕ} (runs : Runs) → Walks text at None text' at' → Finished reading runs → Judges judge text start at' starts runs
+  courses_end {at' = at'} runs walks finished ps is tree ready tail closes qs placed these =
+      let course = before ps is tree ready tail closes qs placed these in
+      course_end judge ps tree tail closes text starts at reading course runs finished at' (walks.token course.rest course.placed) (placed_end walks)

@@ -11,6 +11,7 @@ mod tests {
     use std::test::Fail;
 
     // The four numbers of the fault that the text has: its number, its layer, its text and its place.
+    // Each crate of tests says by itself what it expects of a fault.
     fn told<T: LawfulText + Drop>(text: &[u8]) -> Option<(u8, u8, usize, usize)> {
         T::new(text).err().map(|fault| {
             (

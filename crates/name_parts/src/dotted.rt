@@ -6,6 +6,7 @@ ghost use Rattle.name_parts.specs.Dotted.{DottedWords};
 use positions::Positions;
 use runs::Runs;
 
+// The count is cut at 64 as `start` cuts it, of which this is made.
 /// From each of the first places, the runs of words joined by dots.
 pub(crate) fn dotted_words(count: usize, words: Positions, dots: Positions) -> Runs
     ensures counted { result.count ≡ min count 64 }

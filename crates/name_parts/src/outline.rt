@@ -19,7 +19,7 @@ pub(crate) struct Outline {
     pub(crate) marks: [Positions; MARKS],
 }
 
-// The mark that a part is; a word is none.
+// The mark that a part is; a word is none. Not a `TryFrom`: an error would say no more than none does.
 fn mark_of(part: Part<'_>) -> Option<Mark>
     ensures { MarkOf (part_of part.entry) result }
 {

@@ -30,6 +30,7 @@ impl Gathered {
     fn first_back(&self, text: &AccessList, home: usize, leads: &Links) -> Option<usize>
         ensures { (rs : List Reference) → Refers (text_in text.now) rs → MatchOption result ((g : Name) → Named rs g → Back (known self.now.known) leads.now home g → ⊥) (λ place. FirstBack (known self.now.known) leads.now home rs place) }
     {
+        // No `find_map`: tried, and one goal stayed open, which needs the loop's invariant once more as a lemma.
         for lexeme in text.tokens() {
             if let Token::Group(name) = lexeme.token {
                 if self.leads_back(name, home, leads) {

@@ -82,9 +82,7 @@ impl KnownGroups {
         if self.is_full() {
             return Err(Kind::TooManyGroups);
         }
-        if book.text_len(name).is_none() {
-            return Err(Kind::GroupNotInBook);
-        }
+        book.text_len(name).ok_or(Kind::GroupNotInBook)?;
         let k = self.count;
         self.names[k] = GroupName::new(name).unwrap();
         self.count += 1;

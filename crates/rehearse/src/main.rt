@@ -11,7 +11,7 @@ use names::name::Name;
 use names::path::Path;
 use openings::open::open;
 use openings::opened::Opened;
-use scripts::{Call, NotUnderstood, read_line};
+use scripts::{Call, read_line};
 use std::fmt::Display;
 use std::io::{BufWriter, Read, Write};
 use std::{fmt, io};
@@ -101,7 +101,7 @@ impl<'r, W: Write + Drop> Rehearsal<'r, W> {
         match read_line(line) {
             Ok(None) => Ok(()),
             Ok(Some(call)) => self.answer_call(call),
-            Err(NotUnderstood) => writeln!(self.out, "not understood"),
+            Err(error) => writeln!(self.out, "{error}"),
         }
     }
 

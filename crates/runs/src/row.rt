@@ -25,11 +25,10 @@ impl Runs {
     pub(crate) fn row(&self, i: usize) -> Positions
         ensures { (j : ℕ) → Has result.digits j ↔ Ends self.now i j }
     {
-        if i < self.count {
-            self.rows[i]
-        } else {
-            Positions::empty()
-        }
+        self.rows[..self.count]
+            .get(i)
+            .copied()
+            .unwrap_or(Positions::empty())
     }
 
     /// Puts the ends of the runs from a start in place of those that it had.

@@ -1,4 +1,8 @@
 //! What a line of a script says.
+ghost use Rattle.std.specs.Prelude.{Some, codes};
+
+use std::error::Error;
+use std::fmt;
 
 /// A call with its fields.
 #[derive(Clone, Copy, Debug, PartialEq, Eq)]
@@ -17,3 +21,13 @@ pub enum Call<'a> {
 /// Why a line is refused: it is neither a call nor a line to pass over.
 #[derive(Clone, Copy, Debug, PartialEq, Eq)]
 pub struct NotUnderstood;
+
+impl fmt::Display for NotUnderstood {
+    ghost output = { λ _. Some (codes "not understood") };
+
+    fn fmt<W: fmt::Write>(&self, f: &mut fmt::Formatter<W>) -> fmt::Result {
+        write!(f, "not understood")
+    }
+}
+
+impl Error for NotUnderstood {}

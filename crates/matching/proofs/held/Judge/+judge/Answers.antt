@@ -1,9 +1,11 @@
-use Rattle.std.proofs.Common.{refl, ap, ◌∙◌, subst, arith}
+use Rattle.std.proofs.Common.{◌≡◌, ℕ, ◌≤◌, Some, refl, ap, ◌∙◌, subst, arith}
 use Rattle.lists.specs.Lexemes.{sign}
+use Rattle.lists.specs.Placed.{Walks}
 use Rattle.matching.specs.Judging.{Judges}
 use Rattle.openings.proofs.Walking.{walked}
 use Rattle.matching.proofs.Walking.{an_atom, courses_start, courses_atom, courses_group, courses_star, courses_bar, courses_bracket, courses_close, courses_end}
 use Rattle.matching.proofs.held.Judge.+judge.Goals as goal
+use Rattle.matching.proofs.held.Judge.+judge.Goals.{In-Some}
 
 pub loop-lexeme-init : goal.loop-lexeme-init
 loop-lexeme-init t c =
@@ -11,88 +13,57 @@ loop-lexeme-init t c =
     let begun = c.new-reading.ensures in
     (tt, tt, refl, omega arith, courses_start c.args.self.now tokens.text.now tokens.at c.args.starts.count c.new-reading.result begun)
 
+-- the token that has been passed
+walks : (t : ℕ) (c : In-Some t) → Walks c.args.tokens.now.text.now c.loop-lexeme.tokens.at (Some c.in-Some.lexeme) c.next.new.self.text.now c.next.new.self.at
+walks t c = walked c.loop-lexeme.invariant.2 c.in-Some.ensures.steps
+
+-- where the walk stands then
+moved : (t : ℕ) (c : In-Some t) → (c.next.new.self.text.now ≡ c.args.tokens.now.text.now) × (c.args.tokens.now.at ≤ c.next.new.self.at)
+moved t c = ((walks t c).kept, omega (arith, c.loop-lexeme.invariant.3, (walks t c).onward))
+
+-- the walk goes on from there, with what the reading holds then
+goes_on : (t : ℕ) (c : In-Some t) {Held : Type 0} → Held → Unit {0} × Unit {0} × (c.next.new.self.text.now ≡ c.args.tokens.now.text.now) × (c.args.tokens.now.at ≤ c.next.new.self.at) × Held
+goes_on t c held = (tt, tt, (moved t c).0, (moved t c).1, held)
+
 pub loop-lexeme-preserved-in-Open : goal.loop-lexeme-preserved-in-Open
 loop-lexeme-preserved-in-Open t c =
-    let tokens = c.args.tokens.now in
-    let before = c.loop-lexeme in
-    let passed = c.next.new.self in
-    let walks = walked before.invariant.2 c.in-Some.ensures.steps in
+    let some = (goal.at.loop-lexeme-preserved-in-Open t c).In-Some in
+    let walks = walks t some in
     let judged = c.judge.ensures in
-    let last = c.judge.new.tokens in (
+    let inside = subst (λ text. Judges c.args.self.now text c.next.new.self.at c.judge.new.tokens.at c.places.result.count c.judge.result) walks.kept judged.judged in (
       tt,
       tt,
       judged.kept ∙ walks.kept,
-      omega (arith, before.invariant.3, walks.onward, judged.onward),
-      courses_bracket c.args.self.now tokens.text.now tokens.at c.args.starts.count before.tokens.at before.reading before.invariant.4 c.in-Some.lexeme passed.text.now passed.at walks c.places.result.count last.at c.judge.result c.push.new.self
-          (ap sign c.in-Open.is) c.places.ensures (subst (λ text. Judges c.args.self.now text passed.at last.at c.places.result.count c.judge.result) walks.kept judged.judged) c.push.ensures,
+      omega (arith, (moved t some).1, judged.onward),
+      courses_bracket c.loop-lexeme.invariant.4 walks c.places.result.count c.judge.new.tokens.at c.judge.result c.push.new.self (ap sign c.in-Open.is) c.places.ensures inside c.push.ensures,
     )
 
 pub returns-in-Close-clause-judged : goal.returns-in-Close-clause-judged
 returns-in-Close-clause-judged t c =
-    let tokens = c.args.tokens.now in
-    let before = c.loop-lexeme in
-    let passed = c.next.new.self in
-    let walks = walked before.invariant.2 c.in-Some.ensures.steps in
-    courses_close c.args.self.now tokens.text.now tokens.at c.args.starts.count before.tokens.at before.reading before.invariant.4 c.in-Some.lexeme passed.text.now passed.at walks c.finish.result (ap sign c.in-Close.is) c.finish.ensures
+    let some = (goal.at.returns-in-Close-clause-judged t c).In-Some in
+    courses_close c.loop-lexeme.invariant.4 (walks t some) c.finish.result (ap sign c.in-Close.is) c.finish.ensures
 
 pub loop-lexeme-preserved-in-Star : goal.loop-lexeme-preserved-in-Star
 loop-lexeme-preserved-in-Star t c =
-    let tokens = c.args.tokens.now in
-    let before = c.loop-lexeme in
-    let passed = c.next.new.self in
-    let walks = walked before.invariant.2 c.in-Some.ensures.steps in (
-      tt,
-      tt,
-      walks.kept,
-      omega (arith, before.invariant.3, walks.onward),
-      courses_star c.args.self.now tokens.text.now tokens.at c.args.starts.count before.tokens.at before.reading before.invariant.4 c.in-Some.lexeme passed.text.now passed.at walks c.places-in-Star.result.count c.star.new.self (ap sign c.in-Star.is) c.places-in-Star.ensures c.star.ensures,
-    )
+    let some = (goal.at.loop-lexeme-preserved-in-Star t c).In-Some in
+    goes_on t some (courses_star c.loop-lexeme.invariant.4 (walks t some) c.places-in-Star.result.count c.star.new.self (ap sign c.in-Star.is) c.places-in-Star.ensures c.star.ensures)
 
 pub loop-lexeme-preserved-in-Bar : goal.loop-lexeme-preserved-in-Bar
 loop-lexeme-preserved-in-Bar t c =
-    let tokens = c.args.tokens.now in
-    let before = c.loop-lexeme in
-    let passed = c.next.new.self in
-    let walks = walked before.invariant.2 c.in-Some.ensures.steps in (
-      tt,
-      tt,
-      walks.kept,
-      omega (arith, before.invariant.3, walks.onward),
-      courses_bar c.args.self.now tokens.text.now tokens.at c.args.starts.count before.tokens.at before.reading before.invariant.4 c.in-Some.lexeme passed.text.now passed.at walks c.bar.new.self (ap sign c.in-Bar.is) c.bar.ensures,
-    )
+    let some = (goal.at.loop-lexeme-preserved-in-Bar t c).In-Some in
+    goes_on t some (courses_bar c.loop-lexeme.invariant.4 (walks t some) c.bar.new.self (ap sign c.in-Bar.is) c.bar.ensures)
 
 pub loop-lexeme-preserved-in-Group : goal.loop-lexeme-preserved-in-Group
 loop-lexeme-preserved-in-Group t c =
-    let tokens = c.args.tokens.now in
-    let before = c.loop-lexeme in
-    let passed = c.next.new.self in
-    let walks = walked before.invariant.2 c.in-Some.ensures.steps in (
-      tt,
-      tt,
-      walks.kept,
-      omega (arith, before.invariant.3, walks.onward),
-      courses_group c.args.self.now tokens.text.now tokens.at c.args.starts.count before.tokens.at before.reading before.invariant.4 c.in-Some.lexeme passed.text.now passed.at walks c.in-Group.name.now c.group.result c.push-in-Group.new.self (ap sign c.in-Group.is) c.group.ensures c.push-in-Group.ensures,
-    )
+    let some = (goal.at.loop-lexeme-preserved-in-Group t c).In-Some in
+    goes_on t some (courses_group c.loop-lexeme.invariant.4 (walks t some) c.in-Group.name.now c.group.result c.push-in-Group.new.self (ap sign c.in-Group.is) c.group.ensures c.push-in-Group.ensures)
 
 pub loop-lexeme-preserved : goal.loop-lexeme-preserved
 loop-lexeme-preserved t c =
-    let tokens = c.args.tokens.now in
-    let before = c.loop-lexeme in
-    let passed = c.next.new.self in
-    let walks = walked before.invariant.2 c.in-Some.ensures.steps in
+    let some = (goal.at.loop-lexeme-preserved t c).In-Some in
     let other = c.in_default-token in
-    let (a, is-atom) = an_atom c.in-Some.lexeme.token other.not-Open other.not-Close other.not-Star other.not-Bar other.not-Group in (
-      tt,
-      tt,
-      walks.kept,
-      omega (arith, before.invariant.3, walks.onward),
-      courses_atom c.args.self.now tokens.text.now tokens.at c.args.starts.count before.tokens.at before.reading before.invariant.4 c.in-Some.lexeme passed.text.now passed.at walks a c.atom.result c.push-in_default-token.new.self is-atom (λ ps is. c.atom.ensures ps is a is-atom) c.push-in_default-token.ensures,
-    )
+    let (a, is-atom) = an_atom c.in-Some.lexeme.token other.not-Open other.not-Close other.not-Star other.not-Bar other.not-Group in
+    goes_on t some (courses_atom c.loop-lexeme.invariant.4 (walks t some) a c.atom.result c.push-in_default-token.new.self is-atom (λ ps is. c.atom.ensures ps is a is-atom) c.push-in_default-token.ensures)
 
 pub returns-clause-judged : goal.returns-clause-judged
-returns-clause-judged t c =
-    let tokens = c.args.tokens.now in
-    let before = c.loop-lexeme in
-    let passed = c.next.new.self in
-    let walks = walked before.invariant.2 c.in_default.ensures.steps in
-    courses_end c.args.self.now tokens.text.now tokens.at c.args.starts.count before.tokens.at before.reading before.invariant.4 passed.text.now passed.at c.finish-2.result walks c.finish-2.ensures
+returns-clause-judged t c = courses_end c.loop-lexeme.invariant.4 c.finish-2.result (walked c.loop-lexeme.invariant.2 c.in_default.ensures.steps) c.finish-2.ensures
