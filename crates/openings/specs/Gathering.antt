@@ -27,3 +27,8 @@ pub record Gathering (M : Meaning) (list : List ℕ) (k : ℕ) (gs : List Name) 
 -- all groups that have been met have been read
 abbrev pub AllGathered : Meaning → List ℕ → Gathered → Type 0
 AllGathered M list g = Gathering M list (length (known g.known)) (known g.known) (texts_in g.texts) g.links
+
+-- nothing has been gathered
+pub record Fresh (g : Gathered) : Type 0 where
+  pub unmet : known g.known ≡ []
+  pub unread : g.links.len ≡ 0

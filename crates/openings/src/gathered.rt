@@ -1,4 +1,6 @@
 //! The groups of a list, before circles are looked for.
+ghost use Rattle.openings.specs.Gathering.{Fresh};
+
 use super::known::KnownGroups;
 use links::{Links, MAX_GROUPS};
 use lists::list::AccessList;
@@ -10,4 +12,17 @@ pub(crate) struct Gathered {
     pub(crate) known: KnownGroups,
     pub(crate) texts: [AccessList; MAX_GROUPS],
     pub(crate) links: Links,
+}
+
+impl Gathered {
+    /// Nothing is gathered yet: the list stands where texts of groups are to come.
+    pub(crate) fn new(list: &AccessList) -> Gathered
+        ensures { Fresh result }
+    {
+        Gathered {
+            known: KnownGroups::new(),
+            texts: [*list; MAX_GROUPS],
+            links: Links::new(),
+        }
+    }
 }

@@ -4,7 +4,7 @@ ghost use Rattle.books.specs.Tables.{text_of};
 ghost use Rattle.openings.specs.Opening.{Meaning, Alike};
 ghost use Rattle.openings.specs.Answers.{Answered};
 
-use super::gather::gather;
+use super::gathered::Gathered;
 use super::opened::Opened;
 use books::book::Book;
 use faults::fault::Fault;
@@ -18,7 +18,8 @@ pub fn open<B: Book>(list: &[u8], book: &B) -> Result<Opened, Fault>
     ensures alike { (M : Meaning) → Alike (text_of (B.Book.table book.now)) M list.now → Answered M list.now result }
 {
     let list = AccessList::new(list)?;
-    let groups = gather(&list, book)?;
+    let mut groups = Gathered::new(&list);
+    groups.gather(&list, book)?;
     let leads = groups.links.closed();
     groups.check_circles(&leads)?;
     Ok(Opened {

@@ -14,12 +14,12 @@ returns-in_err-list g c =
     let told = c.in_err-list.ensures.answer.told in
     rw (p.1, p.2) (record { answer = refused (list_told told); alike = λ M alike. refused_alike (list_told told) alike })
 
-pub returns-in_err-groups : goal.returns-in_err-groups
-returns-in_err-groups g c =
-    let p = err_from_is_err_and c.from_residual-in_err-groups.result c.from_residual-in_err-groups.ensures.1 in
+pub returns-in_err-gather : goal.returns-in_err-gather
+returns-in_err-gather g c =
+    let p = err_from_is_err_and c.from_residual-in_err-gather.result c.from_residual-in_err-gather.ensures.1 in
     let M = text_of (g.B.Book.table c.args.book.now) in
     let new = c.in_ok-list.ensures.answer in
-    let told = subst (λ t. OpenFault M t c.in_err-groups.field-0.0) new.0 (c.in_err-groups.ensures (subst LawfulList (sym new.0) new.1.lawful)) in
+    let told = subst (λ t. OpenFault M t c.in_err-gather.field-0.0) new.0 (c.in_err-gather.ensures.all c.new-groups.ensures (subst LawfulList (sym new.0) new.1.lawful)) in
     rw (p.1, p.2) (record { answer = refused told; alike = λ M alike. refused_alike told alike })
 
 pub returns-in_err-check_circles : goal.returns-in_err-check_circles
@@ -28,7 +28,7 @@ returns-in_err-check_circles g c =
     let M = text_of (g.B.Book.table c.args.book.now) in
     let new = c.in_ok-list.ensures.answer in
     let text = shown c.in_ok-list.list.text in
-    let all = c.in_ok-groups.ensures (subst LawfulList (sym new.0) new.1.lawful) in
+    let all = c.in_ok-gather.ensures.all c.new-groups.ensures (subst LawfulList (sym new.0) new.1.lawful) in
     let told = subst (λ t. OpenFault M t c.in_err-check_circles.field-0.0) new.0 (c.in_err-check_circles.ensures M text all c.closed-leads.ensures.links) in
     rw (p.1, p.2) (record { answer = refused told; alike = λ M alike. refused_alike told alike })
 
@@ -37,9 +37,9 @@ invariant_of-result g c =
     let M = text_of (g.B.Book.table c.args.book.now) in
     let new = c.in_ok-list.ensures.answer in
     let text = shown c.in_ok-list.list.text in
-    let groups = c.in_ok-groups.groups in
-    let room : length groups.texts ≡ 32 = search rules in
-    let all = c.in_ok-groups.ensures (subst LawfulList (sym new.0) new.1.lawful) in
+    let groups = c.gather.new.self in
+    let room = c.in_ok-gather.ensures.room in
+    let all = c.in_ok-gather.ensures.all c.new-groups.ensures (subst LawfulList (sym new.0) new.1.lawful) in
     let closes = c.closed-leads.ensures.links in
     let opens = table_opens groups room all (c.in_ok-check_circles.ensures M text all closes) in
     record {
@@ -53,8 +53,8 @@ returns g c =
     let M = text_of (g.B.Book.table c.args.book.now) in
     let new = c.in_ok-list.ensures.answer in
     let text = shown c.in_ok-list.list.text in
-    let groups = c.in_ok-groups.groups in
-    let room : length groups.texts ≡ 32 = search rules in
-    let all = c.in_ok-groups.ensures (subst LawfulList (sym new.0) new.1.lawful) in
+    let groups = c.gather.new.self in
+    let room = c.in_ok-gather.ensures.room in
+    let all = c.in_ok-gather.ensures.all c.new-groups.ensures (subst LawfulList (sym new.0) new.1.lawful) in
     let opens = subst (λ t. Opens M t (table_in groups room all)) new.0 (table_opens groups room all (c.in_ok-check_circles.ensures M text all c.closed-leads.ensures.links)) in
     record { answer = opened_as _ new.0 opens; alike = λ M alike. opened_alike _ new.0 opens alike }

@@ -1,0 +1,238 @@
+//! Opening lists through books: what is reached in which order, and each fault at its place, as tests.
+#![tactic(auto)]
+
+pub mod long_book;
+
+#[cfg(test)]
+mod tests {
+    use super::long_book::{LONGEST_TEXT, LongBook};
+    use books::book::Book;
+    use books::divider::Divider;
+    use books::not_copied::NotCopied;
+    use books::row::Group;
+    use books::table::{TABLE_ROWS, TableBook};
+    use faults::fault::Fault;
+    use faults::lawful::LawfulText;
+    use lists::group_name::GroupName;
+    use openings::open::open;
+
+    // The name `gNN` of a group by the last two digits of its number.
+    fn numbered(k: u8) -> [u8; 3] {
+        [b'g', b'0' + k / 10 % 10, b'0' + k % 10]
+    }
+
+    // The text that refers to that group.
+    fn reference(k: u8) -> [u8; 5] {
+        [b'{', b'g', b'0' + k / 10 % 10, b'0' + k % 10, b'}']
+    }
+
+    // Adds groups of which each names the next, up to the last, whose text is this one.
+    fn add_chain(book: &mut TableBook<'_>, last: u8, text: &[u8]) -> bool {
+        for k in 0..last {
+            if book.add(&numbered(k), &reference(k + 1)).is_err() {
+                return false;
+            }
+        }
+        book.add(&numbered(last), text).is_ok()
+    }
+
+    // Whether the list opens, and reaches groups of these names in this order.
+    fn reaches<B: Book>(book: &B, list: &[u8], names: &[&[u8]]) -> bool {
+        open(list, book).is_ok_and(|opened| {
+            opened.names().len() == names.len()
+                && opened.texts().len() == names.len()
+                && opened
+                    .names()
+                    .iter()
+                    .zip(names)
+                    .all(|(name, wanted)| name.as_bytes() == *wanted)
+        })
+    }
+
+    // Whether the fault has this number and layer, in this text at this place.
+    fn is_fault(fault: Fault, number: u8, layer: u8, text: usize, place: usize) -> bool {
+        fault.kind.number() == number
+            && fault.kind.layer() == layer
+            && fault.text == text
+            && fault.place == place
+    }
+
+    // Whether the list is refused with this number and layer, in this text at this place.
+    fn refuses<B: Book>(
+        book: &B,
+        list: &[u8],
+        number: u8,
+        layer: u8,
+        text: usize,
+        place: usize,
+    ) -> bool {
+        open(list, book).is_err_and(|fault| is_fault(fault, number, layer, text, place))
+    }
+
+    #[test]
+    fn groups_in_the_order_of_meeting(rt: HostRuntime) {
+        let mut rows = [Group::spare(); TABLE_ROWS];
+        let mut book = TableBook::new(&mut rows);
+        assert!(rt; reaches(&book, b"", &[]));
+        assert!(rt; reaches(&book, b"a|b", &[]));
+        assert!(rt; book.add(b"day", b"panel@{keepers}").is_ok());
+        assert!(rt; book.add(b"night", b"{day} | {relief}").is_ok());
+        assert!(rt; book.add(b"keepers", b"ann | bob").is_ok());
+        assert!(rt; book.add(b"relief", b"carl").is_ok());
+        assert!(rt;
+            reaches(
+                &book,
+                b"{day}@raise | {night}@raise",
+                &[b"day", b"night", b"keepers", b"relief"]
+            )
+        );
+        assert!(rt;
+            reaches(
+                &book,
+                b"{night}{day}{night}",
+                &[b"night", b"day", b"relief", b"keepers"]
+            )
+        );
+        assert!(rt; reaches(&book, b"{ relief } {relief}", &[b"relief"]));
+    }
+
+    #[test]
+    fn thirty_two_groups_and_one_more(rt: HostRuntime) {
+        let mut rows = [Group::spare(); TABLE_ROWS];
+        let mut book = TableBook::new(&mut rows);
+        assert!(rt; add_chain(&mut book, 31, b"a"));
+        assert!(rt; open(b"{g00}", &book).is_ok());
+        assert!(rt; add_chain(&mut book, 32, b"a"));
+        assert!(rt; refuses(&book, b"{g00}", 12, 3, 32, 0));
+        assert!(rt; refuses(&book, b"a {g00}", 12, 3, 32, 0));
+        assert!(rt; open(b"{g01}", &book).is_ok());
+        // A 33rd group is one too many also where the book lacks it.
+        assert!(rt; book.remove(b"g32").is_ok());
+        assert!(rt; refuses(&book, b"{g00}", 12, 3, 32, 0));
+        assert!(rt; refuses(&book, b"{g01}", 11, 3, 31, 0));
+    }
+
+    #[test]
+    fn circles(rt: HostRuntime) {
+        let mut rows = [Group::spare(); TABLE_ROWS];
+        let mut book = TableBook::new(&mut rows);
+        // Of one.
+        assert!(rt; book.add(b"g", b"a {g}").is_ok());
+        assert!(rt; refuses(&book, b"{g}", 13, 3, 1, 2));
+        // Of two, reached from either.
+        assert!(rt; book.add(b"g", b"a {h}").is_ok());
+        assert!(rt; book.add(b"h", b"{i}|{g}").is_ok());
+        assert!(rt; book.add(b"i", b"b").is_ok());
+        assert!(rt; refuses(&book, b"{g}", 13, 3, 1, 2));
+        assert!(rt; refuses(&book, b"{h}", 13, 3, 1, 4));
+        assert!(rt; reaches(&book, b"{i}", &[b"i"]));
+        // Of many, reached late.
+        assert!(rt; add_chain(&mut book, 31, b"{g20}"));
+        assert!(rt; refuses(&book, b"{g00}", 13, 3, 21, 0));
+        assert!(rt; refuses(&book, b"{g25}", 13, 3, 1, 0));
+    }
+
+    #[test]
+    fn what_is_told_first(rt: HostRuntime) {
+        let mut rows = [Group::spare(); TABLE_ROWS];
+        let mut book = TableBook::new(&mut rows);
+        assert!(rt; book.add(b"g", b"{g}").is_ok());
+        // A group that the book lacks comes before a circle, and so does a faulty text.
+        assert!(rt; refuses(&book, b"{g}|{h}", 11, 3, 0, 4));
+        assert!(rt; book.add(b"h", b"a|").is_ok());
+        assert!(rt; refuses(&book, b"{g}|{h}", 6, 2, 2, 2));
+        assert!(rt; book.add(b"h", b"{i}").is_ok());
+        assert!(rt; refuses(&book, b"{g}|{h}", 11, 3, 2, 0));
+        assert!(rt; book.add(b"i", b"a").is_ok());
+        assert!(rt; refuses(&book, b"{g}|{h}", 13, 3, 1, 0));
+        // The list's own faults come before all others.
+        assert!(rt; refuses(&book, b"{g}|", 6, 2, 0, 4));
+        assert!(rt; refuses(&book, b"{k}|(", 6, 2, 0, 5));
+        assert!(rt; refuses(&book, &[b' '; 513], 10, 2, 0, 512));
+    }
+
+    #[test]
+    fn groups_that_are_named_twice(rt: HostRuntime) {
+        let mut rows = [Group::spare(); TABLE_ROWS];
+        let mut book = TableBook::new(&mut rows);
+        assert!(rt; book.add(b"g", b"{h}{h}|{i}").is_ok());
+        assert!(rt; book.add(b"h", b"{i}{i}").is_ok());
+        assert!(rt; book.add(b"i", b"a").is_ok());
+        assert!(rt; reaches(&book, b"{g}{g}", &[b"g", b"h", b"i"]));
+        assert!(rt; reaches(&book, b"{i}{h}{g}", &[b"i", b"h", b"g"]));
+        assert!(rt; book.add(b"i", b"{h}{g}").is_ok());
+        assert!(rt; refuses(&book, b"{g}{g}", 13, 3, 1, 0));
+    }
+
+    #[test]
+    fn names_of_the_first_book_and_of_the_second(rt: HostRuntime) {
+        let mut day_rows = [Group::spare(); TABLE_ROWS];
+        let mut day = TableBook::new(&mut day_rows);
+        let mut night_rows = [Group::spare(); TABLE_ROWS];
+        let mut night = TableBook::new(&mut night_rows);
+        assert!(rt; day.add(b"day", b"{night}").is_ok());
+        assert!(rt; day.add(b"night", b"a|").is_ok());
+        assert!(rt; night.add(b"night", b"b").is_ok());
+        let book = Divider::new(day, night, b'd');
+        assert!(rt;
+            open(b"{day}", &book).is_ok_and(|opened| {
+                opened.names().len() == 2
+                    && opened
+                        .texts()
+                        .last()
+                        .is_some_and(|text| text.as_bytes() == b"b".as_slice())
+            })
+        );
+    }
+    #[test]
+    fn sixty_four_rows_and_one_more(rt: HostRuntime) {
+        let mut rows = [Group::spare(); TABLE_ROWS];
+        let mut book = TableBook::new(&mut rows);
+        for k in 0..64 {
+            assert!(rt; book.add(&numbered(k), b"a").is_ok());
+        }
+        assert!(rt;
+            book.add(b"more", b"a").is_err_and(|fault| is_fault(fault, 17, 4, 0, 0))
+        );
+        // The name comes first, then the text, then the row.
+        assert!(rt;
+            book.add(b"", &[b' '; 513]).is_err_and(|fault| is_fault(fault, 9, 2, 0, 0))
+        );
+        assert!(rt;
+            book.add(b"more", &[b' '; 513]).is_err_and(|fault| is_fault(fault, 10, 2, 0, 512))
+        );
+        // An equal name needs no row, and a freed row is used again.
+        assert!(rt; book.add(&numbered(5), b"b").is_ok());
+        assert!(rt; book.remove(&numbered(9)).is_ok());
+        assert!(rt;
+            book.remove(&numbered(9)).is_err_and(|fault| is_fault(fault, 11, 3, 0, 0))
+        );
+        assert!(rt; book.add(b"more", b"{g05}").is_ok());
+        assert!(rt; book.add(b"most", b"a").is_err());
+        assert!(rt; reaches(&book, b"{more}", &[b"more", b"g05"]));
+    }
+
+    #[test]
+    fn the_longest_text_of_a_book(rt: HostRuntime) {
+        let text = [b'a'; LONGEST_TEXT];
+        let name = GroupName::new(b"g");
+        assert!(rt; name.is_ok());
+        if let Ok(name) = name {
+            let book = LongBook::new(name, &text);
+            assert!(rt; book.text_len(b"g") == Some(4095));
+            assert!(rt; book.text_len(b"h").is_none());
+            let mut buffer = [b'x'; 4096];
+            assert!(rt; book.copy_text(b"h", &mut buffer) == Err(NotCopied::NameLacking));
+            assert!(rt;
+                book.copy_text(b"g", &mut buffer[..4094]) == Err(NotCopied::BufferTooShort)
+            );
+            assert!(rt; buffer == [b'x'; 4096]);
+            assert!(rt; book.copy_text(b"g", &mut buffer) == Ok(4095));
+            assert!(rt; buffer.starts_with(&text));
+            assert!(rt; buffer[4095] == b'x');
+            assert!(rt; refuses(&book, b"a {g}", 10, 2, 1, 512));
+            assert!(rt; refuses(&book, b"{h}{g}", 11, 3, 0, 0));
+            assert!(rt; reaches(&book, b"g", &[]));
+        }
+    }
+}
