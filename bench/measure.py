@@ -15,10 +15,11 @@ def seconds(script):
     return time.perf_counter() - start, out
 
 
-def per_match(groups, name, text, count):
-    """Verdict and nanoseconds of opening a list and matching a name against it, from their texts."""
+def per_match(groups, name, text, count, times):
+    """Verdict and nanoseconds of opening a list and matching a name against it, from their texts: the median of many
+    rounds, as the peers take theirs."""
     rounds = []
-    for _ in range(5):
+    for _ in range(times):
         many, out = seconds(lists.script(groups, name, text, count))
         none, _ = seconds(lists.script(groups, name, text, 0))
         rounds.append((many - none) / count * 1e9)
@@ -37,14 +38,14 @@ def main():
     regex = peer(folder + "/regexbench")
     print("list  verdict  rehearse ns  RE2 ns  regex ns  RE2 / rehearse")
     for i, text in enumerate(lists.LISTS):
-        verdict, own = per_match(lists.GROUPS, lists.NAME, text, 20000)
+        verdict, own = per_match(lists.GROUPS, lists.NAME, text, 1000, 81)
         print("%4d  %7s  %11.0f  %6s  %8s  %14.1f" % (i + 1, verdict, own, re2[i][1], regex[i][1], float(re2[i][1]) / own))
     print()
     print("slow lists: 33 full texts of a piece, the longest name")
     print("piece  verdict  rehearse ns")
     for piece in lists.SLOW:
         groups, text = lists.chained(piece)
-        verdict, own = per_match(groups, lists.LONGEST_NAME, text, 20)
+        verdict, own = per_match(groups, lists.LONGEST_NAME, text, 20, 9)
         print("%s  %s  %.0f" % (piece, verdict, own))
 
 

@@ -37,7 +37,7 @@ length_texts [] = refl
 length_texts (e ∷ t) = ap suc (length_texts t)
 
 -- each name of the table stands with the text that the table has for it
-text_held : (P : Name → List ℕ → Type 0) (t : Table) → AllByRecursion (λ e. P e.name e.text) t → (k : ℕ) → k < length t → P (get_or (names_of t) k []) (get_or (texts_of t) k [])
+pub text_held : (P : Name → List ℕ → Type 0) (t : Table) → AllByRecursion (λ e. P e.name e.text) t → (k : ℕ) → k < length t → P (get_or (names_of t) k []) (get_or (texts_of t) k [])
 text_held P [] h k lt = absurd (omega arith)
 text_held P (e ∷ t) h zero lt = h.0
 text_held P (e ∷ t) h (suc k) lt = text_held P t h.1 k (omega arith)

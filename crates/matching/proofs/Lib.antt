@@ -13,3 +13,4 @@ pub mod Views
 pub mod Readiness
 pub mod Ahead
 pub mod Verdicts
+pub mod Likening

@@ -2,3 +2,4 @@ pub mod Steps
 pub mod Readings
 pub mod Judging
 pub mod Ordering
+pub mod Alike

@@ -1,8 +1,10 @@
 //! Whether a list derives a name.
-ghost use Rattle.std.specs.Prelude.{Decides};
+ghost use Rattle.std.specs.Prelude.{ℕ, List, Decides};
 ghost use Rattle.texts.specs.Shown.{shown};
 ghost use Rattle.openings.specs.Answers.{list_of, groups_of};
+ghost use Rattle.books.specs.Tables.{Table};
 ghost use Rattle.derivations.specs.Derives.{exact, ListDerives};
+ghost use Rattle.matching.specs.Alike.{SameTreeAndGroups};
 
 use super::held::Judge;
 use super::places::FirstPlaces;
@@ -11,7 +13,8 @@ use openings::opened::Opened;
 
 /// Whether the opened list derives the name.
 pub fn derives(opened: &Opened, name: &Name) -> bool
-    ensures { Decides result (ListDerives exact (groups_of opened.now) (list_of opened.now) (shown name.now.text)) }
+    ensures answer { Decides result (ListDerives exact (groups_of opened.now) (list_of opened.now) (shown name.now.text)) }
+    ensures alike { (table : Table) (text : List ℕ) → SameTreeAndGroups opened.now table text → Decides result (ListDerives exact table text (shown name.now.text)) }
 {
     let mut judge = Judge::new(name, opened);
     judge.judge_groups();

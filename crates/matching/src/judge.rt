@@ -33,7 +33,7 @@ impl Judge<'_, '_> {
     fn everywhere(&self) -> Positions
         ensures { ForParts self.now (λ ps. (i : ℕ) → Has result.digits i ↔ (i < length ps + 1)) }
     {
-        self.places().runs().all()
+        self.places().set()
     }
 
     // The step of an atom.
@@ -66,6 +66,7 @@ impl Judge<'_, '_> {
             .map_or(Step::Part(Positions::empty()), |runs| Step::Runs(*runs))
     }
 
+    // That the text stays is a clause: it is what the call leaves of the tokens that it is lent.
     // Judges the list whose tokens come next, up to and with the `)` that closes it, or to the end, from the first
     // places.
     fn judge(&self, tokens: &mut ListTokens<'_>, starts: FirstPlaces) -> Runs

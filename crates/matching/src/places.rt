@@ -1,8 +1,10 @@
 //! The first places of a name.
-ghost use Rattle.std.specs.Prelude.{◌≡◌, ℕ, ◌≤◌, ◌↔◌};
+ghost use Rattle.std.specs.Prelude.{◌≡◌, ℕ, ◌<◌, ◌≤◌, ◌↔◌};
+ghost use Rattle.positions.specs.Places.{Has};
 ghost use Rattle.runs.specs.Relations.{Identity};
 ghost use Rattle.runs.specs.Runs.{Ends};
 
+use positions::Positions;
 use runs::Runs;
 
 /// How many of the first places of a name: no more than there are.
@@ -18,6 +20,13 @@ impl FirstPlaces {
         ensures { result.count ≡ 1 }
     {
         FirstPlaces { count: 1 }
+    }
+
+    /// The places as a set.
+    pub(crate) fn set(self) -> Positions
+        ensures { (i : ℕ) → Has result.digits i ↔ (i < self.count) }
+    {
+        Positions::first(self.count)
     }
 
     /// From each of the places, the run that ends where it starts.

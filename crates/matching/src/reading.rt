@@ -39,9 +39,11 @@ impl Reading {
     pub(crate) fn push(&mut self, step: Step)
         ensures { Pushed self.old step self.new }
     {
-        if let Some(before) = self.last.replace(step) {
+        // Not by `replace`: a step is large, and would be moved out and in again.
+        if let Some(before) = &self.last {
             before.follow(&mut self.seq);
         }
+        self.last = Some(step);
     }
 
     /// A star after the last item.
@@ -57,10 +59,11 @@ impl Reading {
         ensures done { Finished self.old self.new.done }
         ensures last { self.new.last ≡ None }
     {
-        if let Some(step) = self.last.take() {
+        if let Some(step) = &self.last {
             step.follow(&mut self.seq);
             self.done.unite(&self.seq);
         }
+        self.last = None;
     }
 
     /// The sequence is done, and another one begins.

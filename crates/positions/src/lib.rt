@@ -26,6 +26,18 @@ impl Positions {
         Positions { digits: 0 }
     }
 
+    /// The first places, at most all of them.
+    pub fn first(count: usize) -> Positions
+        ensures { (i : ℕ) → Has result.digits i ↔ ((i < count) × (i < 64)) }
+    {
+        if count >= PLACES {
+            return Positions { digits: u64::MAX };
+        }
+        Positions {
+            digits: (1u64 << count) - 1,
+        }
+    }
+
     /// Whether the set has no place.
     pub fn is_empty(self) -> bool
         ensures { (result ≡ true) ↔ ((i : ℕ) → Has self.digits i → ⊥) }
