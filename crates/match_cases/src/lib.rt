@@ -5,9 +5,9 @@
 mod tests {
     use books::row::Group;
     use books::table::{TABLE_ROWS, TableBook};
+    use faults::lawful::LawfulText;
     use matching::derives;
     use names::name::Name;
-    use faults::lawful::LawfulText;
     use openings::open::open;
 
     // Whether the list opens through the book and derives the name, or none where one of them is refused.

@@ -184,6 +184,7 @@ mod tests {
             })
         );
     }
+
     #[test]
     fn sixty_four_rows_and_one_more(rt: HostRuntime) {
         let mut rows = [Group::spare(); TABLE_ROWS];
@@ -192,20 +193,24 @@ mod tests {
             assert!(rt; book.add(&numbered(k), b"a").is_ok());
         }
         assert!(rt;
-            book.add(b"more", b"a").is_err_and(|fault| is_fault(fault, 17, 4, 0, 0))
+            book.add(b"more", b"a")
+                .is_err_and(|fault| is_fault(fault, 17, 4, 0, 0))
         );
         // The name comes first, then the text, then the row.
         assert!(rt;
-            book.add(b"", &[b' '; 513]).is_err_and(|fault| is_fault(fault, 9, 2, 0, 0))
+            book.add(b"", &[b' '; 513])
+                .is_err_and(|fault| is_fault(fault, 9, 2, 0, 0))
         );
         assert!(rt;
-            book.add(b"more", &[b' '; 513]).is_err_and(|fault| is_fault(fault, 10, 2, 0, 512))
+            book.add(b"more", &[b' '; 513])
+                .is_err_and(|fault| is_fault(fault, 10, 2, 0, 512))
         );
         // An equal name needs no row, and a freed row is used again.
         assert!(rt; book.add(&numbered(5), b"b").is_ok());
         assert!(rt; book.remove(&numbered(9)).is_ok());
         assert!(rt;
-            book.remove(&numbered(9)).is_err_and(|fault| is_fault(fault, 11, 3, 0, 0))
+            book.remove(&numbered(9))
+                .is_err_and(|fault| is_fault(fault, 11, 3, 0, 0))
         );
         assert!(rt; book.add(b"more", b"{g05}").is_ok());
         assert!(rt; book.add(b"most", b"a").is_err());

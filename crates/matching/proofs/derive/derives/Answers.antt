@@ -24,9 +24,9 @@ returns c =
     let has : (c.has.result ≡ true) ↔ Ends c.judge_text.result 0 (length ps) = subst (λ n. (c.has.result ≡ true) ↔ Ends c.judge_text.result 0 n) (c.count.ensures ps last) c.has.ensures in
     let held = goes.held ps first (λ k lt runs is. absurd (c.new-judge.ensures.none k (runs, is))) in
     let answer : Decides c.has.result (ListDerives exact (groups_of c.args.opened.now) (list_of c.args.opened.now) name) =
-        subst (λ o. Decides c.has.result (ListDerives exact (groups_of o) (list_of o) name)) same
-        (verdict judge name ps is (λ k lt. (c.judge_groups.ensures.all k lt, held k lt)) c.judge_text.result
-        (λ tree reads ready. subst (λ n. Means ps (Derived (table_of judge) tree) n c.judge_text.result) c.one.ensures (c.judge_text.ensures ps last tree (subst (λ text. Reads text tree) (sym (c.list.ensures ∙ ap list_of (sym same))) reads) ready)) c.has.result has) in
+    subst (λ o. Decides c.has.result (ListDerives exact (groups_of o) (list_of o) name)) same
+    (verdict judge name ps is (λ k lt. (c.judge_groups.ensures.all k lt, held k lt)) c.judge_text.result
+    (λ tree reads ready. subst (λ n. Means ps (Derived (table_of judge) tree) n c.judge_text.result) c.one.ensures (c.judge_text.ensures ps last tree (subst (λ text. Reads text tree) (sym (c.list.ensures ∙ ap list_of (sym same))) reads) ready)) c.has.result has) in
     record {
       answer = answer;
       alike = λ table text tree_and_groups. let a = alike c.args.opened.now table text tree_and_groups name in (λ t. a.0 (answer.0 t), λ d. answer.1 (a.1 d));
