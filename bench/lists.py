@@ -82,8 +82,21 @@ def chained(piece):
 
 LONGEST_NAME = ".".join(["a"] * 32)
 
-# what fills the texts of the lists that are meant to be slow
-SLOW = ["a*", "!*", "!", "a.", "(a|.)*", "(!|.)*", "(a*.*)*", "{g31}*", "((((((((((((((((a*)*)*)*)*)*)*)*)*)*)*)*)*)*)*)*|"]
+# what fills the texts of the lists that are meant to be slow: the more stars, and the more places they lead to, the slower
+SLOW = [
+    "a*",
+    "!*",
+    "!",
+    "a.",
+    "(a|.)*",
+    "(!|.)*",
+    "(a*.*)*",
+    "(a.a|.a.)*",
+    "!" + "*" * 250,
+    "((.*!)*+(!.*)*)" + "*" * 480,
+    "(" * 16 + "a*" + ")*" * 16,
+    "(" * 16 + "a.a|.a." + ")*" * 16,
+]
 
 
 def script(groups, name, text, count):

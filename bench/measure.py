@@ -39,6 +39,8 @@ def main():
     print("list  verdict  rehearse ns  RE2 ns  regex ns  RE2 / rehearse")
     for i, text in enumerate(lists.LISTS):
         verdict, own = per_match(lists.GROUPS, lists.NAME, text, 1000, 81)
+        if [re2[i][0], regex[i][0]] != ["1" if verdict == "yes" else "0"] * 2:
+            raise SystemExit("the peers do not agree on list %d" % (i + 1))
         print("%4d  %7s  %11.0f  %6s  %8s  %14.1f" % (i + 1, verdict, own, re2[i][1], regex[i][1], float(re2[i][1]) / own))
     print()
     print("slow lists: 33 full texts of a piece, the longest name")
@@ -46,7 +48,7 @@ def main():
     for piece in lists.SLOW:
         groups, text = lists.chained(piece)
         verdict, own = per_match(groups, lists.LONGEST_NAME, text, 20, 9)
-        print("%s  %s  %.0f" % (piece, verdict, own))
+        print("%s  %s  %.0f" % (piece if len(piece) < 60 else piece[:20] + ".." + piece[-4:], verdict, own))
 
 
 main()

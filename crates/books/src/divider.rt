@@ -17,7 +17,8 @@ pub struct Divider<A: Book, B: Book> {
 impl<A: Book, B: Book> Divider<A, B> {
     /// The two books, parted by the byte.
     pub fn new(first: A, second: B, byte: u8) -> Divider<A, B>
-        ensures { (result.first ≡ first) × (result.second ≡ second) × (result.byte ≡ byte) }
+        ensures fields { (result.first ≡ first) × (result.second ≡ second) × (result.byte ≡ byte) }
+        ensures table { ⟦<Divider<A, B> as Book>⟧.table result ≡ divided byte (A.Book.table first) (B.Book.table second) }
     {
         Divider {
             first,

@@ -24,7 +24,7 @@ pub struct TableBook<'a> {
 impl<'a> TableBook<'a> {
     /// An empty book over the rows that it is lent.
     pub fn new(rows: &'a mut [Group; TABLE_ROWS]) -> TableBook<'a>
-        ensures none { table_of (rows_in_use result.groups) ≡ [] }
+        ensures none { ⟦<TableBook<'a> as Book>⟧.table result ≡ [] }
         ensures memory { result.groups.rows.now ≡ rows.old }
     {
         TableBook {

@@ -9,6 +9,7 @@ mod tests {
     use matching::derives;
     use names::name::Name;
     use openings::open::open;
+    use std::array;
 
     // Whether the list opens through the book and derives the name, or none where one of them is refused.
     fn verdict(book: &TableBook<'_>, name: &[u8], list: &[u8]) -> Option<bool> {
@@ -144,7 +145,12 @@ mod tests {
         assert!(rt; yes(&book, &longest, b"((!|+)*)*((!|+)*)*((!|+)*)*((!|+)*)*"));
     }
 
-    // The longest names that have all bytes and all parts, against the longest list of stars.
+    // Words of seven letters joined by a mark, `N` bytes in all.
+    fn words<const N: usize>(mark: u8) -> [u8; N] {
+        array::from_fn(|i| if i % 8 == 7 { mark } else { b'a' })
+    }
+
+    // Names of the most parts, and of the most bytes too, against the longest lists of stars.
     #[test]
     fn the_longest_list(rt: HostRuntime) {
         let mut rows = [Group::spare(); TABLE_ROWS];
@@ -153,6 +159,8 @@ mod tests {
         list[0] = b'!';
         assert!(rt; yes(&book, &alternating::<63>(b'.'), &list));
         assert!(rt; no(&book, &alternating::<63>(b'+'), &list));
+        assert!(rt; yes(&book, &words::<255>(b'.'), &list));
+        assert!(rt; no(&book, &words::<255>(b'@'), &list));
         let any = [b'!'; 512];
         assert!(rt; no(&book, &alternating::<63>(b'.'), &any));
         assert!(rt; yes(&book, b"a", &list));

@@ -15,6 +15,7 @@ mod tests {
     use faults::lawful::LawfulText;
     use lists::group_name::GroupName;
     use openings::open::open;
+    use std::array;
 
     // The name `gNN` of a group by the last two digits of its number.
     fn numbered(k: u8) -> [u8; 3] {
@@ -110,6 +111,55 @@ mod tests {
         assert!(rt; book.remove(b"g32").is_ok());
         assert!(rt; refuses(&book, b"{g00}", 12, 3, 32, 0));
         assert!(rt; refuses(&book, b"{g01}", 11, 3, 31, 0));
+    }
+
+    // References to one group after another, `N` bytes in all.
+    fn references<const N: usize>() -> [u8; N] {
+        array::from_fn(|i| match i % 5 {
+            0 => b'{',
+            1 => b'g',
+            2 => b'0' + (i / 50 % 10) as u8,
+            3 => b'0' + (i / 5 % 10) as u8,
+            _ => b'}',
+        })
+    }
+
+    // Thirty-three references in one text: the last is one too many, and is told at its `{`.
+    #[test]
+    fn a_group_too_many_in_the_list(rt: HostRuntime) {
+        let mut rows = [Group::spare(); TABLE_ROWS];
+        let mut book = TableBook::new(&mut rows);
+        for k in 0..33 {
+            assert!(rt; book.add(&numbered(k), b"a").is_ok());
+        }
+        assert!(rt; refuses(&book, &references::<165>(), 12, 3, 0, 160));
+        assert!(rt; open(&references::<160>(), &book).is_ok());
+    }
+
+    #[test]
+    fn what_a_table_book_answers(rt: HostRuntime) {
+        let mut rows = [Group::spare(); TABLE_ROWS];
+        let mut book = TableBook::new(&mut rows);
+        assert!(rt; book.add(b"g", b"a|b").is_ok());
+        assert!(rt; book.text_len(b"g") == Some(3));
+        assert!(rt; book.text_len(b"h").is_none());
+        assert!(rt; book.text_len(b"").is_none());
+        assert!(rt; book.text_len(&[b'g'; 33]).is_none());
+        let mut buffer = [b'x'; 4];
+        assert!(rt; book.copy_text(b"h", &mut buffer) == Err(NotCopied::NameLacking));
+        assert!(rt; book.copy_text(b"g", &mut buffer[..2]) == Err(NotCopied::BufferTooShort));
+        assert!(rt; buffer == [b'x'; 4]);
+        assert!(rt; book.copy_text(b"g", &mut buffer) == Ok(3));
+        assert!(rt; buffer == *b"a|bx");
+        // A refusal leaves the group as it was.
+        assert!(rt; book.add(b"g", &[b' '; 513]).is_err());
+        assert!(rt; book.text_len(b"g") == Some(3));
+        // A text may have any content. It is told when a list reaches it.
+        assert!(rt; book.add(b"g", &[0, 255, b'{']).is_ok());
+        assert!(rt; book.text_len(b"g") == Some(3));
+        assert!(rt; refuses(&book, b"a {g}", 5, 2, 1, 0));
+        assert!(rt; refuses(&book, &[b'{', 0, b'}'], 9, 2, 0, 1));
+        assert!(rt; refuses(&book, &[b'a', 255], 5, 2, 0, 1));
     }
 
     #[test]

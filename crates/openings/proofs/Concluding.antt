@@ -51,7 +51,7 @@ refused_alike {M} {M'} {list} {f} x alike = refused ((same_answer list M M' alik
 
 -- a list that opens has all its groups, and no fault
 pub opened_as : {M : Meaning} {list : List ℕ} (o : Opened) → list_of o ≡ list → Opens M list (groups_of o) → OpenedAs M list o
-opened_as {M} {list} o same opens = record { same = same; opens = opens; complete = complete M list (groups_of o) opens; faultless = λ f x. (one_answer M list).apart (groups_of o) f opens x }
+opened_as {M} {list} o same opens = record { same = same; opens = opens; only = λ t p. (one_answer M list).groups t (groups_of o) p opens; complete = complete M list (groups_of o) opens; faultless = λ f x. (one_answer M list).apart (groups_of o) f opens x }
 
 pub opened_alike : {M M' : Meaning} {list : List ℕ} (o : Opened) → list_of o ≡ list → Opens M list (groups_of o) → Alike M M' list → OpenedAs M' list o
 opened_alike {M} {M'} {list} o same opens alike = opened_as o same ((same_answer list M M' alike).groups (groups_of o) opens)

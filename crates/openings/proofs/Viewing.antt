@@ -8,6 +8,7 @@ use Rattle.openings.specs.Holding.{known}
 use Rattle.openings.specs.Gathering.{text_in, texts_in}
 use Rattle.openings.specs.Answers.{groups_of}
 use Rattle.openings.proofs.Holding.{known_count}
+use Rattle.openings.proofs.TableTexts.{length_names}
 use Rattle.openings.proofs.Tabling.{pairs_names, pairs_held}
 
 -- there are texts enough
@@ -19,3 +20,7 @@ view_names o = sym (pairs_names (known o.names) (texts_in o.texts) (enough o))
 
 pub view_texts : (o : Opened) → texts_in (take o.names.count o.texts) ≡ texts_of (groups_of o)
 view_texts o = ap (λ n. texts_in (take n o.texts)) (sym (known_count o.names)) ∙ sym (take-map text_in (length (known o.names)) o.texts) ∙ sym (pairs_held (known o.names) (texts_in o.texts) (enough o))
+
+-- there is a name for each group
+pub view_count : (o : Opened) → length (known o.names) ≡ length (groups_of o)
+view_count o = ap length (view_names o) ∙ length_names (groups_of o)

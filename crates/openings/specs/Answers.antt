@@ -18,10 +18,11 @@ list_of o = text_in o.list
 abbrev pub groups_of : Opened → Table
 groups_of o = pairs (known o.names) (texts_in o.texts)
 
--- the list has been opened: it is held with the groups that it reached, and no fault is due
+-- the list has been opened: it is held with the groups that it reached, which are the only ones, and no fault is due
 pub record OpenedAs (M : Meaning) (list : List ℕ) (o : Opened) : Type 0 where
   pub same : list_of o ≡ list
   pub opens : Opens M list (groups_of o)
+  pub only : (groups : Table) → Opens M list groups → groups ≡ groups_of o
   pub complete : Complete M list (groups_of o)
   pub faultless : (f : Fault) → OpenFault M list f → ⊥
 

@@ -12,7 +12,7 @@ pub record OneAnswer (M : Meaning) (list : List ℕ) : Type 0 where
   pub fault : (f g : Fault) → OpenFault M list f → OpenFault M list g → f ≡ g
   pub apart : (t : Table) (f : Fault) → Opens M list t → OpenFault M list f → ⊥
 
--- the groups are exactly those that the list leads to, each once, at most 32, and none leads to itself
+-- the groups are exactly those that the list leads to, each once, at most 32, and none leads to itself in one step or more
 pub record Complete (M : Meaning) (list : List ℕ) (groups : Table) : Type 0 where
   pub every : (g : Name) → ListLeads M list g → Known (names_of groups) g
   pub only : (g : Name) → Known (names_of groups) g → ListLeads M list g

@@ -20,5 +20,6 @@ pub struct Opened {
     pub(crate) leads: Links,
     ghost room: { length texts ≡ 32 },
     ghost whole: { ∥ Whole (text_in list) (pairs (known names) (texts_in texts)) ∥₁ },
+    ghost counted: { leads.len ≡ length (known names) },
     ghost ordered: { ∥ Tells (pairs (known names) (texts_in texts)) leads ∥₁ },
 }

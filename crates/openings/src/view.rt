@@ -1,5 +1,5 @@
 //! What an opened list holds.
-ghost use Rattle.std.specs.Prelude.{◌≡◌};
+ghost use Rattle.std.specs.Prelude.{◌≡◌, length};
 ghost use Rattle.openings.specs.Opened.{names_of, texts_of};
 ghost use Rattle.openings.specs.Naming.{names_in};
 ghost use Rattle.openings.specs.Holding.{known};
@@ -46,8 +46,10 @@ impl Opened {
     }
 
     /// Which group leads to which, by their numbers.
+    #[tactic(auto, using(crate::proofs::Viewing::view_count))]
     pub fn leads(&self) -> &Links
-        ensures { ∥ Tells (groups_of self.now) result.now ∥₁ }
+        ensures count { result.now.len ≡ length (groups_of self.now) }
+        ensures tells { ∥ Tells (groups_of self.now) result.now ∥₁ }
     {
         &self.leads
     }

@@ -4,6 +4,7 @@ use mathlib.Core.Logic.{∥∥₁_elim}
 use mathlib.Core.HLevel.{⊥_prop}
 use Rattle.std.proofs.lemmas.Bool.{cases_eq}
 use Rattle.positions.proofs.Digits.{has_or_not}
+use Rattle.positions.specs.Places.{Has}
 use Rattle.runs.specs.declared.relation.Runs.{Runs}
 use Rattle.runs.specs.Relations.{Reach, Closure, done, further}
 use Rattle.runs.specs.Runs.{Closed}
@@ -13,6 +14,10 @@ use Rattle.runs.proofs.Reaching.{reach_one, reach_trans, reach_onward}
 pub closed_runs : (r : Runs) → ∥ Closed r ∥₁ → Closed r
 closed_runs r mere i k j a b = (a.0, ⊎_elim (λ h. h) (λ n. absurd (∥∥₁_elim mere ⊥_prop (λ closed. n (closed i k j a b).1))) (has_or_not _ j))
 
+-- from the places from one on that are not in a set no run leads anywhere else
+abbrev pub Still : (ℕ → ℕ → Type 0) → ℕ → ℕ → Type 0
+Still Is going i = (m j : ℕ) → i ≤ m → (Has going m → ⊥) → Is m j → j ≡ m
+
 module _ (Was : ℕ → ℕ → Type 0) (count : ℕ) where
   -- a relation whose rows from one on are closed, and the others are as they were
   pub record From (i : ℕ) (Is : ℕ → ℕ → Type 0) : Type 0 where
@@ -21,7 +26,7 @@ module _ (Was : ℕ → ℕ → Type 0) (count : ℕ) where
 
   module _ (start : (i j : ℕ) → Was i j → i < count) (on : (i j : ℕ) → Was i j → i ≤ j) (i : ℕ) (Is : ℕ → ℕ → Type 0) (from : From (i + 1) Is) where
     -- an end other than the start is past it
-    past : (m : ℕ) → Was i m → m ≢ i → i + 1 ≤ m
+    pub past : (m : ℕ) → Was i m → m ≢ i → i + 1 ≤ m
     past m a ne = let le = on i m a in grind arith
 
     -- a run after a run from such an end is a run

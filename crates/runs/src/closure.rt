@@ -4,6 +4,7 @@ ghost use Rattle.runs.specs.Relations.{Closure};
 ghost use Rattle.runs.specs.Runs.{Ends, Closed, Becomes};
 
 use super::relation::Runs;
+use positions::Positions;
 
 /// A relation in which a run after a run is a run.
 #[derive(Clone, Copy)]
@@ -19,11 +20,17 @@ impl Runs {
         ensures { Becomes self result.runs (Closure self.count (Ends self)) }
     {
         let mut runs = self;
+        // The places from which a run goes on. From the others none leads anywhere else, so they add no end.
+        let mut going = Positions::empty();
         // By number: a row is worked out from rows after it, which it names by their numbers.
         for i in (0..self.count).rev() {
             let row = runs.row(i);
-            let further = runs.closed_image(row.remove(i));
+            let others = row.remove(i);
+            let further = runs.closed_image(others.common(going));
             runs.set_row(i, row.insert(i).union(further));
+            if !others.is_empty() {
+                going = going.insert(i);
+            }
         }
         ClosedRuns { runs }
     }

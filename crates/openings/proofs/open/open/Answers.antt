@@ -1,4 +1,4 @@
-use Rattle.std.proofs.Common.{◌≡◌, length, rules, sym, subst}
+use Rattle.std.proofs.Common.{◌≡◌, ◌∙◌, length, rules, sym, subst}
 use Rattle.std.proofs.lemmas.Result.{err_from_is_err_and}
 use Rattle.texts.specs.Shown.{shown}
 use Rattle.lists.specs.Texts.{LawfulList}
@@ -44,6 +44,7 @@ invariant_of-result g c =
     let opens = table_opens groups room all (c.in_ok-check_circles.ensures M text all closes) in
     record {
       room = room;
+      counted = c.closed-leads.ensures.count ∙ all.rows;
       whole = ∣ opens_own M text (table_in groups room all) opens ∣₁;
       ordered = ∣ table_tells groups room all c.closed-leads.result closes opens ∣₁;
     }

@@ -9,7 +9,7 @@ use Rattle.matching.proofs.Ahead.{TextJudged, goes_both, goes_below, ahead_begin
 use Rattle.matching.proofs.held.Judge.+judge_group.Goals as goal
 
 pub loop-m-init : goal.loop-m-init
-loop-m-init t c = ahead_begins c.args.k c.args.self.now c.leads.result.now c.row-m-items.result c.into_iter-m-iterator.result.left c.leads.ensures c.row-m-items.ensures c.into_iter-m-iterator.ensures.into_iter_gives
+loop-m-init t c = ahead_begins c.args.k c.args.self.now c.leads.result.now c.row-m-items.result c.into_iter-m-iterator.result.left c.leads.ensures.tells c.row-m-items.ensures c.into_iter-m-iterator.ensures.into_iter_gives
 
 pub judge_group-requires : goal.judge_group-requires
 judge_group-requires t c =
