@@ -1,5 +1,4 @@
 """Prints how long matching takes, list by list: run by `bench/run`, with the folder of the built peers as argument."""
-import statistics
 import subprocess
 import sys
 import time
@@ -16,14 +15,14 @@ def seconds(script):
 
 
 def per_match(groups, name, text, count, times):
-    """Verdict and nanoseconds of opening a list and matching a name against it, from their texts: the median of many
-    rounds, as the peers take theirs."""
+    """Verdict and nanoseconds of opening a list and matching a name against it, from their texts: the least of many
+    rounds, as of the peers, so that other work on the machine counts little."""
     rounds = []
     for _ in range(times):
         many, out = seconds(lists.script(groups, name, text, count))
         none, _ = seconds(lists.script(groups, name, text, 0))
         rounds.append((many - none) / count * 1e9)
-    return out.split(b"\n")[-2].decode(), statistics.median(rounds)
+    return out.split(b"\n")[-2].decode(), min(rounds)
 
 
 def peer(command):

@@ -1,5 +1,5 @@
 // Compiles each expression on standard input with RE2 and matches the name on the first line with it. Prints for each
-// the verdict and the median of many runs in nanoseconds.
+// the verdict and the least of many runs in nanoseconds.
 #include <re2/re2.h>
 
 #include <algorithm>
@@ -23,6 +23,6 @@ int main() {
       runs.push_back(std::chrono::duration<double, std::nano>(Clock::now() - start).count());
     }
     std::sort(runs.begin(), runs.end());
-    std::printf("%d %.0f\n", verdict, runs[runs.size() / 2]);
+    std::printf("%d %.0f\n", verdict, runs[0]);
   }
 }

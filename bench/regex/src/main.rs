@@ -1,5 +1,5 @@
 // Compiles each expression on standard input with the crate regex and matches the name on the first line with it.
-// Prints for each the verdict and the median of many runs in nanoseconds.
+// Prints for each the verdict and the least of many runs in nanoseconds.
 use std::io::BufRead;
 use std::time::Instant;
 
@@ -17,6 +17,6 @@ fn main() {
             runs.push(start.elapsed().as_nanos());
         }
         runs.sort();
-        println!("{} {}", verdict as u8, runs[runs.len() / 2]);
+        println!("{} {}", verdict as u8, runs[0]);
     }
 }
