@@ -1,4 +1,4 @@
-use Rattle.std.proofs.Common.{◌≡◌, rules, ◌+◌, ◌<◌, length, set, sym, refl, ap, ◌∙◌, subst, subst₂, arith, length-set}
+use Rattle.std.proofs.Common.{◌≡◌, rules, ◌+◌, ◌<◌, length, set, sym, ap, ◌∙◌, subst, subst₂, arith, length-set}
 use lib.ListN.{length-map}
 use Rattle.std.proofs.lemmas.List.{map-set}
 use Rattle.std.proofs.lemmas.Result.{err_from_is_err_and}
@@ -17,9 +17,6 @@ use Rattle.openings.proofs.gathered.Gathered.gather.Goals as goal
 
 pub returns-in_err-meet_all-clause-all : goal.returns-in_err-meet_all-clause-all
 returns-in_err-meet_all-clause-all g c fresh lawful = let p = err_from_is_err_and c.from_residual.result c.from_residual.ensures.1 in rw (p.1, p.2) (list_halts lawful fresh.unmet c.in_err-meet_all.ensures)
-
-pub loop-name-init : goal.loop-name-init
-loop-name-init g c = (search rules, λ so. so)
 
 pub returns-in_err-text-clause-all : goal.returns-in_err-text-clause-all
 returns-in_err-text-clause-all g c fresh lawful =
