@@ -28,13 +28,7 @@ mod tests {
 
     // Letters with a mark at every second place, `N` bytes in all.
     fn alternating<const N: usize>(mark: u8) -> [u8; N] {
-        let mut text = [b'a'; N];
-        for (i, b) in text.iter_mut().enumerate() {
-            if i % 2 == 1 {
-                *b = mark;
-            }
-        }
-        text
+        array::from_fn(|i| if i % 2 == 1 { mark } else { b'a' })
     }
 
     #[test]

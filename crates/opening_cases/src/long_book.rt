@@ -23,7 +23,7 @@ pub struct LongBook<'a> {
 impl<'a> LongBook<'a> {
     /// The book of this group.
     pub fn new(name: GroupName, text: &'a [u8; LONGEST_TEXT]) -> LongBook<'a>
-        ensures { (result.name ≡ name) × (result.text.now ≡ text.now) }
+        ensures { ⟦<LongBook<'a> as Book>⟧.table result ≡ sole (shown name.text) text.now }
     {
         LongBook { name, text }
     }
