@@ -50,15 +50,4 @@ impl Runs {
         }
         ends
     }
-
-    /// The ends of all runs.
-    pub fn all(&self) -> Positions
-        ensures { (j : ℕ) → Has result.digits j ↔ ((i : ℕ) × Ends self.now i j) }
-    {
-        let mut ends = Positions::empty();
-        for row in &self.rows[..self.count] {
-            ends = ends.union(*row);
-        }
-        ends
-    }
 }
