@@ -29,6 +29,10 @@ row list groups name derived = record { list = codes list; groups = groups; name
 abbrev pub letters : Table
 letters = record { name = codes "g"; text = codes "a|b" } ∷ []
 
+-- a table of one group without items
+abbrev pub itemless : Table
+itemless = record { name = codes "g"; text = codes " " } ∷ []
+
 abbrev pub cases : List Case
 cases =
     row "!" [] "a.b" true
@@ -42,4 +46,11 @@ cases =
     ∷ row "(!@ted +!@read) | (login@ted +!@write)" [] "login@ted+app@read" true
     ∷ row "(!@ted +!@read) | (login@ted +!@write)" [] "sshd@ted+app@write" false
     ∷ row "(!@ted +!@read) | (login@ted +!@write)" [] "login@ted+app@beta@read" false
+    ∷ row "a" [] "b" false
+    ∷ row "a|b" [] "b" true
+    ∷ row "a b*" [] "a" true
+    ∷ row "x.{g}" letters "x.c" false
+    ∷ row "a {g}" itemless "a" false
+    ∷ row "a {g}*" itemless "a" true
+    ∷ row " " [] "a" false
     ∷ []

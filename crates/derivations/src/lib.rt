@@ -10,5 +10,5 @@ pub fn case_count() -> usize
     ensures count { result ≡ length cases }
     ensures hold { AllByRecursion Holds cases }
 {
-    11
+    18
 }

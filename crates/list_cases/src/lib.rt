@@ -142,6 +142,17 @@ mod tests {
         assert!(rt; tokens.next_token() == Ok(None));
     }
 
+    // A fault leaves the reader where it is, so that it is told again.
+    #[test]
+    fn a_fault_is_told_again(rt: HostRuntime) {
+        let mut tokens = Tokens::new(b"a  ? b");
+        assert!(rt; tokens.next_token() == Ok(Some(lexeme(Token::Word(b"a"), 0, 1))));
+        let told = tokens.next_token();
+        assert!(rt; told.is_err_and(|fault| fault.kind.number() == 5 && fault.place == 3));
+        assert!(rt; tokens.next_token() == told);
+        assert!(rt; tokens.next_token() == told);
+    }
+
     fn lexeme(token: Token<'_>, place: usize, end: usize) -> Lexeme<'_> {
         Lexeme { token, place, end }
     }

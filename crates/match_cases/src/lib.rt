@@ -37,6 +37,9 @@ mod tests {
         let book = TableBook::new(&mut rows);
         assert!(rt; yes(&book, b"a.b", b"!"));
         assert!(rt; no(&book, b"a@b", b"!"));
+        assert!(rt; no(&book, b"a", b"b"));
+        assert!(rt; yes(&book, b"b", b"a|b"));
+        assert!(rt; yes(&book, b"a", b"a b*"));
         assert!(rt; yes(&book, b"a.b.x", b"!.x"));
         assert!(rt; yes(&book, b"a+b+c", b"(!+)*!"));
         assert!(rt; no(&book, b"login", b"log in"));
@@ -80,6 +83,7 @@ mod tests {
         assert!(rt; book.add(b"g", b"a|b").is_ok());
         assert!(rt; yes(&book, b"x.b", b"x.{g}"));
         assert!(rt; no(&book, b"b", b"x.{g}"));
+        assert!(rt; no(&book, b"x.c", b"x.{g}"));
         assert!(rt; yes(&book, b"b.a", b"{g}.{g}"));
         assert!(rt; no(&book, b"b.c", b"{g}.{g}"));
         assert!(rt; book.add(b"none", b" ").is_ok());
@@ -119,6 +123,19 @@ mod tests {
         assert!(rt; yes(&book, &alternating::<63>(b'+'), b"{g00}"));
         assert!(rt; no(&book, &alternating::<63>(b'@'), b"{g00}"));
         assert!(rt; no(&book, &alternating::<63>(b'+'), b"{g00}b"));
+    }
+
+    // As many groups as a list may reach.
+    #[test]
+    fn thirty_two_groups(rt: HostRuntime) {
+        let mut rows = [Group::spare(); TABLE_ROWS];
+        let mut book = TableBook::new(&mut rows);
+        for k in 0..31 {
+            assert!(rt; book.add(&numbered(k), &doubled(k + 1)).is_ok());
+        }
+        assert!(rt; book.add(&numbered(31), b"a*").is_ok());
+        assert!(rt; yes(&book, b"a", b"{g00}"));
+        assert!(rt; no(&book, b"b", b"{g00}"));
     }
 
     #[test]

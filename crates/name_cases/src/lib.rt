@@ -3,6 +3,7 @@
 
 #[cfg(test)]
 mod tests {
+    use faults::kind::Kind;
     use faults::lawful::LawfulText;
     use names::name::{Name, PartialName};
     use names::part::Part;
@@ -21,6 +22,40 @@ mod tests {
                 fault.place,
             )
         })
+    }
+
+    // The table of faults, row by row.
+    #[test]
+    fn kinds(rt: HostRuntime) {
+        let table: [(Kind, u8, u8); 23] = [
+            (Kind::ByteNotAllowed, 1, 1),
+            (Kind::WordMissing, 2, 1),
+            (Kind::WordTooLong, 3, 1),
+            (Kind::NameTooLong, 4, 1),
+            (Kind::ByteNotAllowedInList, 5, 2),
+            (Kind::WordTooLongInList, 3, 2),
+            (Kind::ItemMissing, 6, 2),
+            (Kind::BracketUnmatched, 7, 2),
+            (Kind::BracketsTooDeep, 8, 2),
+            (Kind::GroupNameUnlawful, 9, 2),
+            (Kind::TextTooLong, 10, 2),
+            (Kind::GroupNotInBook, 11, 3),
+            (Kind::TooManyGroups, 12, 3),
+            (Kind::GroupLeadsToItself, 13, 3),
+            (Kind::NoSuchProcess, 14, 4),
+            (Kind::NoListInForce, 15, 4),
+            (Kind::PathUnlawful, 16, 4),
+            (Kind::NoRowFree, 17, 4),
+            (Kind::NoSpaceForRecord, 18, 5),
+            (Kind::WordsNotAsWritten, 19, 5),
+            (Kind::VerdictDiffers, 20, 5),
+            (Kind::NoSpaceForOutcome, 21, 5),
+            (Kind::LeaveNotOpenHere, 22, 5),
+        ];
+        assert!(rt;
+            table.iter().all(|(kind, number, layer)| kind.number() == *number
+                && kind.layer() == *layer)
+        );
     }
 
     // Words of 31 letters joined by dots, `N` bytes in all.

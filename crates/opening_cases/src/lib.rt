@@ -42,6 +42,7 @@ mod tests {
         open(list, book).is_ok_and(|opened| {
             opened.names().len() == names.len()
                 && opened.texts().len() == names.len()
+                && opened.leads().len() == names.len()
                 && opened
                     .names()
                     .iter()
@@ -180,6 +181,48 @@ mod tests {
         assert!(rt; add_chain(&mut book, 31, b"{g20}"));
         assert!(rt; refuses(&book, b"{g00}", 13, 3, 21, 0));
         assert!(rt; refuses(&book, b"{g25}", 13, 3, 1, 0));
+    }
+
+    // A circle is found by each reference of a text, and not by the last alone.
+    #[test]
+    fn circles_of_a_text_that_names_more(rt: HostRuntime) {
+        let mut rows = [Group::spare(); TABLE_ROWS];
+        let mut book = TableBook::new(&mut rows);
+        assert!(rt; book.add(b"h", b"a").is_ok());
+        assert!(rt; book.add(b"g", b"{g} {h}").is_ok());
+        assert!(rt; refuses(&book, b"{g}", 13, 3, 1, 0));
+        assert!(rt; book.add(b"g", b"{h} {g}").is_ok());
+        assert!(rt; refuses(&book, b"{g}", 13, 3, 1, 4));
+        assert!(rt; book.add(b"g", b"{i} {h}").is_ok());
+        assert!(rt; book.add(b"i", b"{h} {g} {h}").is_ok());
+        assert!(rt; refuses(&book, b"{h} {g}", 13, 3, 2, 0));
+        assert!(rt; refuses(&book, b"{i}", 13, 3, 1, 4));
+    }
+
+    // Whether a walk over the groups that one group leads to gives these numbers, and then none again and again.
+    fn leads<B: Book>(book: &B, list: &[u8], group: usize, numbers: &[usize]) -> bool {
+        open(list, book).is_ok_and(|opened| {
+            let mut walk = opened.leads().row(group).into_iter();
+            let all = numbers.iter().all(|k| walk.next() == Some(*k));
+            all && walk.next().is_none() && walk.next().is_none()
+        })
+    }
+
+    #[test]
+    fn which_group_leads_to_which(rt: HostRuntime) {
+        let mut rows = [Group::spare(); TABLE_ROWS];
+        let mut book = TableBook::new(&mut rows);
+        assert!(rt; book.add(b"g", b"{k} {h} {k}").is_ok());
+        assert!(rt; book.add(b"h", b"{i}").is_ok());
+        assert!(rt; book.add(b"i", b"a").is_ok());
+        assert!(rt; book.add(b"k", b"a").is_ok());
+        assert!(rt; leads(&book, b"{g}", 0, &[1, 2, 3]));
+        assert!(rt; leads(&book, b"{g}", 1, &[]));
+        assert!(rt; leads(&book, b"{g}", 2, &[3]));
+        assert!(rt; leads(&book, b"{k} {g}", 1, &[0, 2, 3]));
+        assert!(rt; leads(&book, b"{h} {g}", 1, &[0, 2, 3]));
+        assert!(rt; leads(&book, b"{k} {h}", 0, &[]));
+        assert!(rt; leads(&book, b"{k} {h}", 1, &[2]));
     }
 
     #[test]

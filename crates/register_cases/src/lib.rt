@@ -103,6 +103,24 @@ mod tests {
         assert!(rt; are(&gates, &[]));
     }
 
+    // Rows past those in use are the lender's: no call writes there.
+    #[test]
+    fn rows_past_those_in_use(rt: HostRuntime) {
+        let gate = |number, height| Gate { number, height };
+        let mut rows = [gate(9, 0), gate(9, 1), gate(9, 2), gate(9, 3), gate(9, 4)];
+        let mut gates = Register::new(&mut rows);
+        assert!(rt; put(&mut gates, 7, 1));
+        assert!(rt; put(&mut gates, 5, 2));
+        assert!(rt; put(&mut gates, 6, 3));
+        assert!(rt; gates.remove(&5).is_some());
+        assert!(rt; gates.remove(&5).is_none());
+        assert!(rt; are(&gates, &[6, 7]));
+        assert!(rt; rows[3] == gate(9, 3));
+        assert!(rt; rows[4] == gate(9, 4));
+        // The row that was freed keeps what it had.
+        assert!(rt; rows[2] == gate(7, 1));
+    }
+
     #[test]
     fn no_rows_at_all(rt: HostRuntime) {
         let mut rows: [Gate; 0] = [];
@@ -167,6 +185,14 @@ mod tests {
         assert!(rt; start(&mut programs, b"gate", 7));
         assert!(rt; starts(&programs, b"gate") == 7);
         assert!(rt; starts(&programs, b"pump") == 1);
+    }
+
+    // A zero byte more at the end is another text.
+    #[test]
+    fn texts_by_their_bytes(rt: HostRuntime) {
+        assert!(rt; name(b"a") == name(b"a"));
+        assert!(rt; name(b"a") != name(&[b'a', 0]));
+        assert!(rt; name(&[0]) != empty());
     }
 
     // Whether the first name comes before the second, and the second not before the first.
