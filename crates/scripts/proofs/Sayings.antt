@@ -1,9 +1,9 @@
 -- What a line says, by its tabs and its word.
-use Rattle.std.proofs.Common.{◌≡◌, ℕ, ◌+◌, ◌<◌, ◌≤◌, List, [], ◌∷◌, length, get_or, codes, None, Result, Ok, Err, sym, refl, ap, subst, arith}
+use Rattle.std.proofs.Common.{◌≡◌, ℕ, ◌+◌, ◌<◌, ◌≤◌, List, [], ◌∷◌, length, get_or, codes, Some, None, Result, Ok, Err, sym, refl, ap, subst, arith}
 use Rattle.scripts.specs.declared.line.Call.{Call}
 use Rattle.scripts.specs.declared.line.Call.TheVariants.{Name, Path, List as ListCall, Group, Ungroup, Open, Match}
 use Rattle.scripts.specs.declared.line.NotUnderstood.{NotUnderstood}
-use Rattle.scripts.specs.Lines.{Lacks, Cut, Fields, last, more, parts, Says, nothing, comment, Understood}
+use Rattle.scripts.specs.Lines.{Lacks, Cut, Fields, last, more, parts, Says, nothing, comment, call, OneMeaning, Understood}
 use Rattle.scripts.proofs.Cuts.{cut_has, cut_once}
 
 -- a line that begins with nothing but `#` says nothing
@@ -75,3 +75,30 @@ no_call_of_two word a b group match (Group x y) is = group (cc)
 no_call_of_two word a b group match (Ungroup text) is = omega (arith, ap length is)
 no_call_of_two word a b group match (Open text) is = omega (arith, ap length is)
 no_call_of_two word a b group match (Match x y) is = match (cc)
+
+-- the first field of a comment begins with its `#`, as no call's word does
+keeps_hash : {text : List ℕ} {fields : List (List ℕ)} → Fields (35 ∷ text) fields → get_or (get_or fields 0 []) 0 0 ≡ 35
+keeps_hash (last h) = refl
+keeps_hash (more {field = []} cut k) = absurd (omega (arith, ap (λ l. get_or l 0 0) cut.whole))
+keeps_hash (more {field = byte ∷ word} cut k) = sym (ap (λ l. get_or l 0 0) cut.whole)
+
+no_hash : (told : Call) → get_or (get_or (parts told) 0 []) 0 0 ≡ 35 → ⊥
+no_hash (Name text) hash = omega (arith, hash)
+no_hash (Path text) hash = omega (arith, hash)
+no_hash (ListCall text) hash = omega (arith, hash)
+no_hash (Group name text) hash = omega (arith, hash)
+no_hash (Ungroup name) hash = omega (arith, hash)
+no_hash (Open text) hash = omega (arith, hash)
+no_hash (Match name text) hash = omega (arith, hash)
+
+-- a line that says nothing is no call
+silent : {text : List ℕ} → Says text None → (told : Call) → Fields text (parts told) → ⊥
+silent nothing told fs = lone_word (last (λ i lt. absurd (omega arith))) told fs
+silent comment told fs = no_hash told (keeps_hash fs)
+
+-- a line says one thing
+pub says_once : (text : List ℕ) → OneMeaning text
+says_once text None None p q = refl
+says_once text None (Some told) p (call gs) = absurd (silent p told gs)
+says_once text (Some told) None (call fs) q = absurd (silent q told fs)
+says_once text (Some a) (Some b) (call fs) (call gs) = ap Some (fields_once fs gs)

@@ -1,5 +1,5 @@
 -- What a line of a script says.
-use Rattle.std.specs.Prelude.{◌≡◌, ℕ, ◌<◌, List, [], ◌∷◌, ◌++◌, length, codes, ◌≢◌, slice_index, Option, Some, None, Result, MatchResult}
+use Rattle.std.specs.Prelude.{◌≡◌, ℕ, ◌<◌, List, [], ◌∷◌, ◌++◌, length, codes, ◌≢◌, slice_index, Option, Some, None, option_map, Result, MatchResult}
 use Rattle.scripts.specs.declared.line.Call.{Call}
 use Rattle.scripts.specs.declared.line.Call.TheVariants.{Name, Path, List as ListCall, Group, Ungroup, Open, Match}
 use Rattle.scripts.specs.declared.line.NotUnderstood.{NotUnderstood}
@@ -33,6 +33,10 @@ pub data Says : List ℕ → Option Call → Type 0 where
   nothing : Says [] None
   comment : {text : List ℕ} → Says (35 ∷ text) None
   call : {text : List ℕ} {told : Call} → Fields text (parts told) → Says text (Some told)
+
+-- a line says one thing at most: nothing, or one call with its fields
+abbrev pub OneMeaning : List ℕ → Type 0
+OneMeaning line = (a b : Option Call) → Says line a → Says line b → option_map parts a ≡ option_map parts b
 
 -- what is lawful, or `NotUnderstood` where nothing is
 abbrev pub Understood : {T : Type 0} → (T → Type 0) → Result T NotUnderstood → Type 0

@@ -2,7 +2,7 @@
 #![tactic(auto)]
 
 ghost use Rattle.std.specs.Prelude.{◌≡◌, [], ◌∷◌, MatchOption};
-ghost use Rattle.scripts.specs.Lines.{Lacks, Cut, Fields, parts, Says, Understood};
+ghost use Rattle.scripts.specs.Lines.{Lacks, Cut, Fields, parts, Says, OneMeaning, Understood};
 
 mod line;
 
@@ -19,8 +19,10 @@ pub fn cut_at(text: &[u8], byte: u8) -> Option<(&[u8], &[u8])>
 }
 
 /// What a line says: a call with its fields, or nothing where it is empty or a comment.
+#[tactic(auto, using(crate::proofs::Sayings::says_once))]
 pub fn read_line(line: &[u8]) -> Result<Option<Call<'_>>, NotUnderstood>
-    ensures { Understood (Says line.now) result }
+    ensures meaning { Understood (Says line.now) result }
+    ensures one { OneMeaning line.now }
 {
     match line {
         [] | [b'#', ..] => Ok(None),
