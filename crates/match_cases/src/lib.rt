@@ -172,6 +172,8 @@ mod tests {
         assert!(rt; no(&book, &alternating::<63>(b'+'), &list));
         assert!(rt; yes(&book, &words::<255>(b'.'), &list));
         assert!(rt; no(&book, &words::<255>(b'@'), &list));
+        assert!(rt; yes(&book, &alternating::<63>(b'+'), b"(a|+)*+a!*"));
+        assert!(rt; no(&book, &alternating::<63>(b'@'), b"(a|+)*+a!*"));
         let any = [b'!'; 512];
         assert!(rt; no(&book, &alternating::<63>(b'.'), &any));
         assert!(rt; yes(&book, b"a", &list));
