@@ -152,6 +152,8 @@ mod tests {
         assert!(rt; buffer == [b'x'; 4]);
         assert!(rt; book.copy_text(b"g", &mut buffer) == Ok(3));
         assert!(rt; buffer == *b"a|bx");
+        assert!(rt; book.copy_text(b"g", &mut buffer[1..]) == Ok(3));
+        assert!(rt; buffer == *b"aa|b");
         // A refusal leaves the group as it was.
         assert!(rt; book.add(b"g", &[b' '; 513]).is_err());
         assert!(rt; book.text_len(b"g") == Some(3));
