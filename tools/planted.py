@@ -175,6 +175,8 @@ def main():
     copy, file, *words = [pathlib.Path(word) for word in sys.argv[1:] if word != '--tests']
     text = file.read_text()
     tests = re.search(r'^tests: (.*)$', text, re.M)
+    if by_tests and not tests:
+        sys.exit(f'{file} names no tests')
     counts = collections.Counter()
     for bug in listed(text):
         if words and str(words[0]) not in bug.what:
