@@ -8,31 +8,31 @@ use Rattle.texts.specs.Shown.{shown}
 use Rattle.registers.specs.declared.register.Register.{Register}
 use Rattle.registers.specs.Rows.{found}
 use Rattle.registers.specs.Registers.{rows_in_use, Puts, Removes}
-use Rattle.books.specs.declared.row.Group.{Group}
+use Rattle.books.specs.declared.group.Group.{Group}
 use Rattle.books.specs.Tables.{text_of}
 use Rattle.books.specs.Groups.{name_of, entry, table_of}
 use Rattle.books.specs.Changes.{Added, Removed}
 use Rattle.books.proofs.Lookups.{text_found, text_cases}
 
-module _ {K : Type 0} {kind : _} {key_kind : _} where
+module _ {K : Type 0} {kind : _} {key_kind : _} {key_eq : _} where
   -- what is found alike has the same text
-  alike : (old new : Register Group K kind key_kind) (k : List ℕ) → found name_of (rows_in_use new) k ≡ found name_of (rows_in_use old) k → text_of (table_of (rows_in_use new)) k ≡ text_of (table_of (rows_in_use old)) k
+  alike : (old new : Register Group K kind key_kind key_eq) (k : List ℕ) → found name_of (rows_in_use new) k ≡ found name_of (rows_in_use old) k → text_of (table_of (rows_in_use new)) k ≡ text_of (table_of (rows_in_use old)) k
   alike old new k e = text_cases (rows_in_use new) k (found name_of (rows_in_use old) k) e ∙ sym (text_found (rows_in_use old) k)
 
-  pub puts_added : (old new : Register Group K kind key_kind) (g : Group) (name text : List ℕ) → name_of g ≡ name → shown g.text ≡ text → Puts name_of g old new → Added (table_of (rows_in_use old)) (table_of (rows_in_use new)) name text
+  pub puts_added : (old new : Register Group K kind key_kind key_eq) (g : Group) (name text : List ℕ) → name_of g ≡ name → shown g.text ≡ text → Puts name_of g old new → Added (table_of (rows_in_use old)) (table_of (rows_in_use new)) name text
   puts_added old new g name text e f p = record {
     own = ap (text_of (table_of (rows_in_use new))) (sym e) ∙ text_cases (rows_in_use new) (name_of g) (Some g) p.own ∙ ap Some f;
     others = λ k ne. alike old new k (p.others k (λ h. ne (h ∙ e)));
   }
 
-  pub removes_removed : (old new : Register Group K kind key_kind) (k name : List ℕ) (g : Group) → k ≡ name → Removes name_of k old new (Some g) → Removed (table_of (rows_in_use old)) (table_of (rows_in_use new)) name
+  pub removes_removed : (old new : Register Group K kind key_kind key_eq) (k name : List ℕ) (g : Group) → k ≡ name → Removes name_of k old new (Some g) → Removed (table_of (rows_in_use old)) (table_of (rows_in_use new)) name
   removes_removed old new k name g e r = record {
     had = ap (λ n. is_some (text_of (table_of (rows_in_use old)) n)) (sym e) ∙ ap is_some (text_cases (rows_in_use old) k (Some g) (sym r.answered));
     own = ap (text_of (table_of (rows_in_use new))) (sym e) ∙ text_cases (rows_in_use new) k None r.own;
     others = λ j ne. alike old new j (r.others j (λ h. ne (h ∙ e)));
   }
 
-  pub no_text : (old : Register Group K kind key_kind) (k name : List ℕ) → k ≡ name → found name_of (rows_in_use old) k ≡ None → text_of (table_of (rows_in_use old)) name ≡ None
+  pub no_text : (old : Register Group K kind key_kind key_eq) (k name : List ℕ) → k ≡ name → found name_of (rows_in_use old) k ≡ None → text_of (table_of (rows_in_use old)) name ≡ None
   no_text old k name e h = ap (text_of (table_of (rows_in_use old))) (sym e) ∙ text_cases (rows_in_use old) k None h
 
 pub table_length : (gs : List Group) → length (table_of gs) ≡ length gs

@@ -7,7 +7,7 @@ use Rattle.std.specs.Str.{bytes_eq}
 use Rattle.texts.specs.Shown.{shown}
 use Rattle.registers.specs.Order.{same}
 use Rattle.registers.specs.Rows.{found}
-use Rattle.books.specs.declared.row.Group.{Group}
+use Rattle.books.specs.declared.group.Group.{Group}
 use Rattle.books.specs.Tables.{text_of}
 use Rattle.books.specs.Groups.{name_of, table_of}
 

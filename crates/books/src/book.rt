@@ -24,3 +24,23 @@ pub trait Book {
         ensures answer { result ≡ (copied (text_of (table self.now) name.now) buffer.old).0 }
         ensures buffer { buffer.new ≡ (copied (text_of (table self.now) name.now) buffer.old).1 };
 }
+
+/// A book that is lent is a book.
+impl<B: Book> Book for &B {
+    ghost table = { λ b. B.Book.table b.now };
+
+    ghost lawful = { λ b. B.Book.lawful b.now };
+
+    fn text_len(&self, name: &[u8]) -> Option<usize>
+        ensures { result ≡ option_map length (text_of (B.Book.table self.now.now) name.now) }
+    {
+        (**self).text_len(name)
+    }
+
+    fn copy_text(&self, name: &[u8], buffer: &mut [u8]) -> Result<usize, NotCopied>
+        ensures answer { result ≡ (copied (text_of (B.Book.table self.now.now) name.now) buffer.old).0 }
+        ensures buffer { buffer.new ≡ (copied (text_of (B.Book.table self.now.now) name.now) buffer.old).1 }
+    {
+        (**self).copy_text(name, buffer)
+    }
+}

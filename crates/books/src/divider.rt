@@ -1,6 +1,8 @@
 //! A book made of two.
-ghost use Rattle.std.specs.Prelude.{◌≡◌};
-ghost use Rattle.books.specs.Tables.{begins, divided};
+ghost use Rattle.std.specs.Prelude.{◌≡◌, length};
+ghost use Rattle.std.specs.Option.{option_map};
+ghost use Rattle.books.specs.Copies.{copied};
+ghost use Rattle.books.specs.Tables.{begins, divided, text_of};
 ghost use Rattle.books.specs.Divided.{divided_lawful};
 
 use super::book::Book;
@@ -27,6 +29,13 @@ impl<A: Book, B: Book> Divider<A, B> {
         }
     }
 
+    /// The two books, as they were put in.
+    pub fn into_books(self) -> (A, B)
+        ensures { (result.0 ≡ self.first) × (result.1 ≡ self.second) }
+    {
+        (self.first, self.second)
+    }
+
     // Whether a name goes to the first book.
     fn is_first(&self, name: &[u8]) -> bool
         ensures { result ≡ begins self.now.byte name.now }
@@ -40,7 +49,9 @@ impl<A: Book, B: Book> Book for Divider<A, B> {
 
     ghost lawful = { λ d. divided_lawful d.byte (A.Book.table d.first) (B.Book.table d.second) (A.Book.lawful d.first) (B.Book.lawful d.second) };
 
-    fn text_len(&self, name: &[u8]) -> Option<usize> {
+    fn text_len(&self, name: &[u8]) -> Option<usize>
+        ensures { result ≡ option_map length (text_of (divided self.now.byte (A.Book.table self.now.first) (B.Book.table self.now.second)) name.now) }
+    {
         if self.is_first(name) {
             self.first.text_len(name)
         } else {
@@ -48,7 +59,10 @@ impl<A: Book, B: Book> Book for Divider<A, B> {
         }
     }
 
-    fn copy_text(&self, name: &[u8], buffer: &mut [u8]) -> Result<usize, NotCopied> {
+    fn copy_text(&self, name: &[u8], buffer: &mut [u8]) -> Result<usize, NotCopied>
+        ensures answer { result ≡ (copied (text_of (divided self.now.byte (A.Book.table self.now.first) (B.Book.table self.now.second)) name.now) buffer.old).0 }
+        ensures buffer { buffer.new ≡ (copied (text_of (divided self.now.byte (A.Book.table self.now.first) (B.Book.table self.now.second)) name.now) buffer.old).1 }
+    {
         if self.is_first(name) {
             self.first.copy_text(name, buffer)
         } else {

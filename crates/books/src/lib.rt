@@ -2,10 +2,7 @@
 #![tactic(auto)]
 
 pub mod book;
-mod changes;
 pub mod divider;
-pub mod keyed;
+pub mod group;
 pub mod not_copied;
-pub mod row;
-mod spare;
 pub mod table;

@@ -1,5 +1,6 @@
 //! A fault: its kind, the text that it was found in, and the place there.
 ghost use Rattle.std.specs.Prelude.{◌≡◌, Some};
+ghost use Rattle.std.specs.Fmt.{DisplaysOnOk};
 ghost use Rattle.faults.specs.Printed.{fault_text};
 
 use super::kind::Kind;
@@ -37,7 +38,9 @@ impl Fault {
 impl fmt::Display for Fault {
     ghost output = { λ f. Some (fault_text f) };
 
-    fn fmt<W: fmt::Write>(&self, f: &mut fmt::Formatter<W>) -> fmt::Result {
+    fn fmt<W: fmt::Write>(&self, f: &mut fmt::Formatter<W>) -> fmt::Result
+        ensures { DisplaysOnOk W.write_str_gives f.old result (Some (fault_text self.now)) f.new }
+    {
         let (number, layer) = (self.kind.number(), self.kind.layer());
         let (text, place) = (self.text, self.place);
         write!(f, "{number} {layer} {text} {place}")

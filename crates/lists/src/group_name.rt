@@ -1,5 +1,6 @@
 //! Group names that are given alone.
 ghost use Rattle.std.specs.Prelude.{◌≡◌};
+ghost use Rattle.faults.specs.Lawful.{Checked};
 ghost use Rattle.texts.specs.Shown.{shown};
 ghost use Rattle.lists.specs.Bytes.{IsGroupName};
 ghost use Rattle.lists.specs.GroupNames.{GroupNameFault};
@@ -26,7 +27,9 @@ impl LawfulText for GroupName {
 
     ghost faulty = { GroupNameFault };
 
-    fn new(text: &[u8]) -> Result<GroupName, Fault> {
+    fn new(text: &[u8]) -> Result<GroupName, Fault>
+        ensures { Checked (λ name. shown name.text) IsGroupName GroupNameFault text.now result }
+    {
         let held = copy_within::<MAX_GROUP_NAME_BYTES>(text, Kind::GroupNameUnlawful)?;
         let end = run_end(text, 0, is_group_byte);
         if end < text.len() || end == 0 {
@@ -35,7 +38,9 @@ impl LawfulText for GroupName {
         Ok(GroupName { text: held })
     }
 
-    fn as_bytes(&self) -> &[u8] {
+    fn as_bytes(&self) -> &[u8]
+        ensures { result.now ≡ shown self.now.text }
+    {
         self.text.as_bytes()
     }
 }

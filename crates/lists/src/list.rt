@@ -40,7 +40,9 @@ impl LawfulText for AccessList {
         Ok(AccessList { text: held })
     }
 
-    fn as_bytes(&self) -> &[u8] {
+    fn as_bytes(&self) -> &[u8]
+        ensures { result.now ≡ shown self.now.text }
+    {
         self.text.as_bytes()
     }
 }

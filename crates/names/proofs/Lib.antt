@@ -1,4 +1,5 @@
 pub mod Machine
+pub mod Above
 pub mod Bytes
 pub mod Chains
 pub mod Forms

@@ -14,7 +14,7 @@ pub path_of : {t : List ℕ} → Joined slash_byte t → IsPath (47 ∷ t)
 path_of (lone h) = one h
 path_of (linked {w = w} {t = t} {m = m} h is c) = subst (λ b. IsPath (47 ∷ (w ++ (b ∷ t)))) (sym (eqb-true m 47 is)) (more h (path_of c))
 
-joined_of : {p : List ℕ} → IsPath p → (t : List ℕ) × ((p ≡ 47 ∷ t) × Joined slash_byte t)
+pub joined_of : {p : List ℕ} → IsPath p → (t : List ℕ) × ((p ≡ 47 ∷ t) × Joined slash_byte t)
 joined_of (one {w = w} h) = (w, (refl, lone h))
 joined_of (more {w = w} {path = path} h p) = let r = joined_of p in (w ++ path, (refl, subst (λ u. Joined slash_byte (w ++ u)) (sym r.1.0) (linked h refl r.1.1)))
 

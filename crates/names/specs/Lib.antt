@@ -6,3 +6,4 @@ pub mod Paths
 pub mod Faults
 pub mod Joints
 pub mod Parts
+pub mod Rules

@@ -6,4 +6,5 @@ pub mod limit;
 pub mod name;
 pub mod part;
 pub mod path;
+pub mod rule;
 pub mod word;

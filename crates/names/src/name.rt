@@ -1,5 +1,6 @@
 //! Names, and the partial names that calls are given.
 ghost use Rattle.std.specs.Prelude.{◌≡◌};
+ghost use Rattle.faults.specs.Lawful.{Checked};
 ghost use Rattle.texts.specs.Shown.{shown};
 ghost use Rattle.names.specs.Words.{count_of};
 ghost use Rattle.names.specs.Names.{LawfulName, LawfulPartial, OneRow, PartsOf};
@@ -41,7 +42,9 @@ impl LawfulText for Name {
 
     ghost faulty = { NameFault };
 
-    fn new(text: &[u8]) -> Result<Name, Fault> {
+    fn new(text: &[u8]) -> Result<Name, Fault>
+        ensures { Checked (λ n. shown n.text) LawfulName NameFault text.now result }
+    {
         let held = copy_within::<MAX_NAME_BYTES>(text, Kind::NameTooLong)?;
         check_joined(text, is_mark)?;
         if let Some(place) = nth_mark(text, MAX_MARKS) {
@@ -53,7 +56,9 @@ impl LawfulText for Name {
         })
     }
 
-    fn as_bytes(&self) -> &[u8] {
+    fn as_bytes(&self) -> &[u8]
+        ensures { result.now ≡ shown self.now.text }
+    {
         Text::as_bytes(&self.text)
     }
 }
@@ -94,13 +99,17 @@ impl LawfulText for PartialName {
 
     ghost faulty = { PartialFault };
 
-    fn new(text: &[u8]) -> Result<PartialName, Fault> {
+    fn new(text: &[u8]) -> Result<PartialName, Fault>
+        ensures { Checked (λ n. shown n.text) LawfulPartial PartialFault text.now result }
+    {
         let held = copy_within::<MAX_PARTIAL_BYTES>(text, Kind::NameTooLong)?;
         check_joined(text, |b| b == b'.')?;
         Ok(PartialName { text: held })
     }
 
-    fn as_bytes(&self) -> &[u8] {
+    fn as_bytes(&self) -> &[u8]
+        ensures { result.now ≡ shown self.now.text }
+    {
         self.text.as_bytes()
     }
 }

@@ -1,6 +1,6 @@
 //! A walk over the places of a set, from the least on.
 ghost use Rattle.std.specs.Prelude.{◌≡◌};
-ghost use Rattle.std.specs.Iterator.{at_most};
+ghost use Rattle.std.specs.Iterator.{at_most, MakesProgress};
 ghost use Rattle.positions.specs.Places.{Step};
 
 use crate::Positions;
@@ -18,7 +18,10 @@ impl Iterator for Places {
 
     ghost remaining = { λ s. at_most s.left.digits };
 
-    fn next(&mut self) -> Option<usize> {
+    fn next(&mut self) -> Option<usize>
+        ensures steps { Step self.old.left.digits result self.new.left.digits }
+        ensures goes { MakesProgress (λ _. Unit {0}) (λ s. at_most s.left.digits) self.old result self.new }
+    {
         let (first, others) = self.left.split_first()?;
         self.left = others;
         Some(first)
@@ -32,7 +35,9 @@ impl IntoIterator for Positions {
 
     ghost into_iter_gives = { λ s r. r.left ≡ s };
 
-    fn into_iter(self) -> Places {
+    fn into_iter(self) -> Places
+        ensures { result.left ≡ self }
+    {
         Places { left: self }
     }
 }

@@ -1,5 +1,5 @@
 //! Gates, by number.
-ghost use Rattle.std.specs.Prelude.{[], ◌∷◌};
+ghost use Rattle.std.specs.Prelude.{◌≡◌, [], ◌∷◌};
 
 use registers::record::Record;
 
@@ -15,7 +15,9 @@ impl Record for Gate {
 
     ghost keyed = { λ gate. gate.number ∷ [] };
 
-    fn key(&self) -> &u32 {
-        &self.number
+    fn key(&self) -> u32
+        ensures { result ≡ self.now.number }
+    {
+        self.number
     }
 }

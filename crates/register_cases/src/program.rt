@@ -1,4 +1,5 @@
 //! Programs, by name.
+ghost use Rattle.std.specs.Prelude.{◌≡◌};
 ghost use Rattle.texts.specs.Shown.{shown};
 
 use registers::record::Record;
@@ -16,7 +17,9 @@ impl Record for Program {
 
     ghost keyed = { λ program. shown program.name };
 
-    fn key(&self) -> &Text<8> {
-        &self.name
+    fn key(&self) -> Text<8>
+        ensures { shown result ≡ shown self.now.name }
+    {
+        self.name
     }
 }

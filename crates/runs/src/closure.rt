@@ -40,7 +40,9 @@ impl Runs {
 impl From<ClosedRuns> for Runs {
     ghost from_gives = { λ closed runs. runs ≡ closed.runs };
 
-    fn from(closed: ClosedRuns) -> Runs {
+    fn from(closed: ClosedRuns) -> Runs
+        ensures { result ≡ closed.runs }
+    {
         closed.runs
     }
 }

@@ -13,7 +13,9 @@ impl Relation for Runs {
 
     ghost onward = { λ r. r.onward };
 
-    fn image(&self, starts: Positions) -> Positions {
+    fn image(&self, starts: Positions) -> Positions
+        ensures { (j : ℕ) → Has result.digits j ↔ Image (Ends self.now) starts.digits j }
+    {
         let mut ends = Positions::empty();
         for m in starts {
             ends = ends.union(self.row(m));
@@ -27,7 +29,9 @@ impl Relation for ClosedRuns {
 
     ghost onward = { λ r. r.runs.onward };
 
-    fn image(&self, starts: Positions) -> Positions {
+    fn image(&self, starts: Positions) -> Positions
+        ensures { (j : ℕ) → Has result.digits j ↔ Image (Ends self.now.runs) starts.digits j }
+    {
         self.runs.closed_image(starts)
     }
 }

@@ -2,7 +2,7 @@ use Rattle.std.proofs.Common.{[], ◌∷◌, refl, arith, Result, Ok, Err, Match
 use Rattle.std.specs.Result.{IsOk}
 use Rattle.names.specs.Words.{word_byte}
 use Rattle.lists.specs.Bytes.{group_byte, IsGroupName}
-use Rattle.books.proofs.row.Group.spare.Goals as goal
+use Rattle.books.proofs.group.Group.spare.Goals as goal
 
 -- a dash is a group name
 dash : IsGroupName (45 ∷ [])
