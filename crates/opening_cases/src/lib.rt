@@ -8,13 +8,19 @@ mod tests {
     use super::long_book::{LONGEST_TEXT, LongBook};
     use books::book::Book;
     use books::divider::Divider;
+    use books::group::Group;
     use books::not_copied::NotCopied;
-    use books::row::Group;
     use books::table::{TABLE_ROWS, TableBook};
     use faults::fault::Fault;
     use faults::lawful::LawfulText;
     use lists::group_name::GroupName;
+    use lists::list::AccessList;
+    use openings::in_book::InBook;
+    use openings::membership::Membership;
     use openings::open::open;
+    use openings::opened::Opened;
+    use openings::opening::Opening;
+    use openings::supposed::Supposed;
     use std::array;
 
     // The name `gNN` of a group by the last two digits of its number.
@@ -37,9 +43,14 @@ mod tests {
         book.add(&numbered(last), text).is_ok()
     }
 
+    // Opens a list through a book, from its text.
+    fn open_text<B: Book>(list: &[u8], book: &B) -> Result<Opened, Fault> {
+        open(&AccessList::new(list)?, book)
+    }
+
     // Whether the list opens, and reaches groups of these names in this order.
     fn reaches<B: Book>(book: &B, list: &[u8], names: &[&[u8]]) -> bool {
-        open(list, book).is_ok_and(|opened| {
+        open_text(list, book).is_ok_and(|opened| {
             opened.names().len() == names.len()
                 && opened.texts().len() == names.len()
                 && opened.leads().len() == names.len()
@@ -68,7 +79,7 @@ mod tests {
         text: usize,
         place: usize,
     ) -> bool {
-        open(list, book).is_err_and(|fault| is_fault(fault, number, layer, text, place))
+        open_text(list, book).is_err_and(|fault| is_fault(fault, number, layer, text, place))
     }
 
     #[test]
@@ -103,11 +114,11 @@ mod tests {
         let mut rows = [Group::spare(); TABLE_ROWS];
         let mut book = TableBook::new(&mut rows);
         assert!(rt; add_chain(&mut book, 31, b"a"));
-        assert!(rt; open(b"{g00}", &book).is_ok());
+        assert!(rt; open_text(b"{g00}", &book).is_ok());
         assert!(rt; add_chain(&mut book, 32, b"a"));
         assert!(rt; refuses(&book, b"{g00}", 12, 3, 32, 0));
         assert!(rt; refuses(&book, b"a {g00}", 12, 3, 32, 0));
-        assert!(rt; open(b"{g01}", &book).is_ok());
+        assert!(rt; open_text(b"{g01}", &book).is_ok());
         // A 33rd group is one too many also where the book lacks it.
         assert!(rt; book.remove(b"g32").is_ok());
         assert!(rt; refuses(&book, b"{g00}", 12, 3, 32, 0));
@@ -134,7 +145,7 @@ mod tests {
             assert!(rt; book.add(&numbered(k), b"a").is_ok());
         }
         assert!(rt; refuses(&book, &references::<165>(), 12, 3, 0, 160));
-        assert!(rt; open(&references::<160>(), &book).is_ok());
+        assert!(rt; open_text(&references::<160>(), &book).is_ok());
     }
 
     #[test]
@@ -203,7 +214,7 @@ mod tests {
 
     // Whether a walk over the groups that one group leads to gives these numbers, and then none again and again.
     fn leads<B: Book>(book: &B, list: &[u8], group: usize, numbers: &[usize]) -> bool {
-        open(list, book).is_ok_and(|opened| {
+        open_text(list, book).is_ok_and(|opened| {
             let mut walk = opened.leads().row(group).into_iter();
             let all = numbers.iter().all(|k| walk.next() == Some(*k));
             all && walk.next().is_none() && walk.next().is_none()
@@ -270,7 +281,7 @@ mod tests {
         assert!(rt; night.add(b"night", b"b").is_ok());
         let book = Divider::new(day, night, b'd');
         assert!(rt;
-            open(b"{day}", &book).is_ok_and(|opened| {
+            open_text(b"{day}", &book).is_ok_and(|opened| {
                 opened.names().len() == 2
                     && opened
                         .texts()
@@ -278,6 +289,22 @@ mod tests {
                         .is_some_and(|text| text.as_bytes() == b"b".as_slice())
             })
         );
+    }
+
+    // A book that is lent to a divider is its owner's again, and can be changed.
+    #[test]
+    fn lent_book_is_changed_after(rt: HostRuntime) {
+        let mut day_rows = [Group::spare(); TABLE_ROWS];
+        let mut night_rows = [Group::spare(); TABLE_ROWS];
+        let mut day = TableBook::new(&mut day_rows);
+        let night = TableBook::new(&mut night_rows);
+        assert!(rt; day.add(b"day", b"a").is_ok());
+        let lent = Divider::new(&day, &night, b'd');
+        assert!(rt; lent.text_len(b"day") == Some(1));
+        assert!(rt; open_text(b"{day}", &lent).is_ok());
+        assert!(rt; day.add(b"day", b"ab").is_ok());
+        let (first, _) = Divider::new(day, night, b'd').into_books();
+        assert!(rt; first.text_len(b"day") == Some(2));
     }
 
     #[test]
@@ -333,6 +360,154 @@ mod tests {
             assert!(rt; refuses(&book, b"a {g}", 10, 2, 1, 512));
             assert!(rt; refuses(&book, b"{h}{g}", 11, 3, 0, 0));
             assert!(rt; reaches(&book, b"g", &[]));
+        }
+    }
+
+    // Begins to open a list, from its text.
+    fn begin<M: Membership>(list: &[u8], members: &M) -> Result<Opening, Fault> {
+        Opening::new(&AccessList::new(list)?, members)
+    }
+
+    // Whether the text of the group of this name is due, or of none.
+    fn is_due(opening: &Opening, name: Option<&[u8]>) -> bool {
+        opening.due().map(|due| due.as_bytes()) == name
+    }
+
+    // Whether the group whose text has this number has the name, or there is none.
+    fn is_group(opening: &Opening, text: usize, name: Option<&[u8]>) -> bool {
+        opening.group(text).map(|group| group.as_bytes()) == name
+    }
+
+    #[test]
+    fn a_lacking_group_is_told_at_meeting_or_when_it_is_due(rt: HostRuntime) {
+        let mut rows = [Group::spare(); TABLE_ROWS];
+        let mut book = TableBook::new(&mut rows);
+        assert!(rt; book.add(b"g", b"(").is_ok());
+        // Through a book, when it is met.
+        assert!(rt; refuses(&book, b"{g}{h}", 11, 3, 0, 3));
+        assert!(rt;
+            begin(b"{g}{h}", &InBook::of(&book)).is_err_and(|fault| is_fault(fault, 11, 3, 0, 3))
+        );
+        // Where it is supposed to be there, when its turn comes.
+        let begun = begin(b"{g}{h}", &Supposed);
+        assert!(rt; begun.is_ok());
+        if let Ok(mut opening) = begun {
+            assert!(rt; is_due(&opening, Some(b"g")));
+            assert!(rt;
+                opening
+                    .finish()
+                    .is_err_and(|fault| is_fault(fault, 11, 3, 0, 0))
+            );
+            assert!(rt;
+                opening
+                    .give(b"(", &Supposed)
+                    .is_err_and(|fault| is_fault(fault, 6, 2, 1, 1))
+            );
+            // A refusal leaves all as it was.
+            assert!(rt; is_due(&opening, Some(b"g")));
+            assert!(rt; is_group(&opening, 0, None));
+            assert!(rt; is_group(&opening, 1, Some(b"g")));
+            assert!(rt; is_group(&opening, 2, Some(b"h")));
+            assert!(rt; is_group(&opening, 3, None));
+            assert!(rt; opening.give(b"a", &Supposed).is_ok());
+            assert!(rt; is_due(&opening, Some(b"h")));
+            assert!(rt;
+                opening
+                    .finish()
+                    .is_err_and(|fault| is_fault(fault, 11, 3, 0, 3))
+            );
+            assert!(rt; opening.give(b"b", &Supposed).is_ok());
+            assert!(rt; is_due(&opening, None));
+            // Where no text is due, none is taken.
+            assert!(rt; opening.give(b"{i}", &Supposed).is_ok());
+            assert!(rt; is_due(&opening, None));
+            assert!(rt;
+                opening.finish().is_ok_and(|opened| opened.names().len() == 2
+                    && opened.texts().len() == 2)
+            );
+        }
+    }
+
+    #[test]
+    fn a_text_that_is_refused_makes_no_group_known(rt: HostRuntime) {
+        let mut rows = [Group::spare(); TABLE_ROWS];
+        let mut book = TableBook::new(&mut rows);
+        assert!(rt; book.add(b"g", b"").is_ok());
+        assert!(rt; book.add(b"i", b"").is_ok());
+        let begun = begin(b"a {g}", &InBook::of(&book));
+        assert!(rt; begun.is_ok());
+        if let Ok(mut opening) = begun {
+            assert!(rt;
+                opening
+                    .give(b"{i}{h}", &InBook::of(&book))
+                    .is_err_and(|fault| is_fault(fault, 11, 3, 1, 3))
+            );
+            assert!(rt; is_group(&opening, 2, None));
+            assert!(rt;
+                opening
+                    .give(&[b' '; 513], &InBook::of(&book))
+                    .is_err_and(|fault| is_fault(fault, 10, 2, 1, 512))
+            );
+            // Lacking in a text: told there, and at its first reference.
+            assert!(rt; opening.give(b"a{h}|{h}", &Supposed).is_ok());
+            assert!(rt; is_group(&opening, 2, Some(b"h")));
+            assert!(rt;
+                opening
+                    .finish()
+                    .is_err_and(|fault| is_fault(fault, 11, 3, 1, 1))
+            );
+        }
+    }
+
+    #[test]
+    fn thirty_three_groups_before_any_text(rt: HostRuntime) {
+        assert!(rt;
+            begin(&references::<165>(), &Supposed).is_err_and(|fault| is_fault(
+                fault, 12, 3, 0, 160
+            ))
+        );
+        let begun = begin(&references::<160>(), &Supposed);
+        assert!(rt; begun.is_ok());
+        if let Ok(mut opening) = begun {
+            assert!(rt;
+                opening
+                    .give(b"{g31}{more}", &Supposed)
+                    .is_err_and(|fault| is_fault(fault, 12, 3, 1, 5))
+            );
+            for _ in 0..31 {
+                assert!(rt; opening.give(b"{g31}", &Supposed).is_ok());
+            }
+            assert!(rt; is_due(&opening, Some(b"g31")));
+            assert!(rt; opening.give(b"a", &Supposed).is_ok());
+            assert!(rt;
+                opening
+                    .finish()
+                    .is_ok_and(|opened| opened.texts().len() == 32)
+            );
+        }
+    }
+
+    #[test]
+    fn circles_step_by_step(rt: HostRuntime) {
+        let one = begin(b"{g}", &Supposed);
+        assert!(rt; one.is_ok());
+        if let Ok(mut opening) = one {
+            let other = opening;
+            assert!(rt; opening.give(b"a {g}", &Supposed).is_ok());
+            assert!(rt; is_due(&opening, None));
+            assert!(rt;
+                opening
+                    .finish()
+                    .is_err_and(|fault| is_fault(fault, 13, 3, 1, 2))
+            );
+            let mut opening = other;
+            assert!(rt; opening.give(b"{h}", &Supposed).is_ok());
+            assert!(rt; opening.give(b"a|{g}", &Supposed).is_ok());
+            assert!(rt;
+                opening
+                    .finish()
+                    .is_err_and(|fault| is_fault(fault, 13, 3, 1, 0))
+            );
         }
     }
 }

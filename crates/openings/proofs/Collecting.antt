@@ -12,8 +12,8 @@ use Rattle.openings.specs.References.{Reference, references_of, Refers, RefersAt
 use Rattle.openings.specs.Opening.{Name, Meaning, Known, Meets, again, new, MeetsAll, met, meet, Halts, ReadTo, start, turn, the_list, the_group}
 use Rattle.openings.specs.Opened.{in_text, OpenFault, unlawful, halts}
 use Rattle.openings.specs.Circles.{Names}
-use Rattle.openings.specs.Meeting.{Named, AllMet, HaltsIn}
-use Rattle.openings.specs.Gathering.{Gathering}
+use Rattle.openings.specs.MetReferences.{Named, AllMet, HaltsIn}
+use Rattle.openings.specs.Progress.{Progress}
 use Rattle.openings.proofs.Meeting.{meets_keeps}
 use Rattle.openings.proofs.Knowing.{numbered_at, push_source}
 use Rattle.openings.proofs.Referring.{refers_one}
@@ -45,7 +45,7 @@ names_of {M} {h = h} e n = subst (λ x. Names M x h) (sym e) n
 
 module _ {M : Meaning} {list : List ℕ} {k : ℕ} {gs gs' : List Name} {texts : List (List ℕ)} {links links' : Links} {named : ℕ} where
   -- one group more is read, and what it names is met
-  pub gather_more : (text : List ℕ) (rs : List Reference) → Gathering M list k gs texts links → k < length gs → k < length texts → M (get_or gs k []) ≡ Some text → LawfulList text → Refers text rs → AllMet M gs rs gs' named → Added links named links' → Gathering M list (k + 1) gs' (set texts k text) links'
+  pub gather_more : (text : List ℕ) (rs : List Reference) → Progress M list k gs texts links → k < length gs → k < length texts → M (get_or gs k []) ≡ Some text → LawfulList text → Refers text rs → AllMet M gs rs gs' named → Added links named links' → Progress M list (k + 1) gs' (set texts k text) links'
   gather_more text rs g here room has lawful refers all added =
       let own = kept_at k all.met here in
       record {
@@ -81,18 +81,18 @@ module _ {M : Meaning} {list : List ℕ} {k : ℕ} {gs gs' : List Name} {texts :
       }
 
 -- every group that is known is in the book
-abbrev AllHave : Meaning → List Name → Type 0
+abbrev pub AllHave : Meaning → List Name → Type 0
 AllHave M gs = (g : Name) → Known gs g → is_some (M g) ≡ true
 
 meet_have : {M : Meaning} {gs gs' : List Name} {h : Name} → Meets M gs h gs' → AllHave M gs → AllHave M gs'
 meet_have (again k) have g known = have g known
 meet_have {M} {gs} {h = h} (new u f s) have g known = ⊎_elim (have g) (λ e. ap (λ x. is_some (M x)) (sym e) ∙ s) (push_source gs h known)
 
-meets_have : {M : Meaning} {gs gs' : List Name} {rs : List Reference} → MeetsAll M gs rs gs' → AllHave M gs → AllHave M gs'
+pub meets_have : {M : Meaning} {gs gs' : List Name} {rs : List Reference} → MeetsAll M gs rs gs' → AllHave M gs → AllHave M gs'
 meets_have met have = have
 meets_have (meet m ms) have = meets_have ms (meet_have m have)
 
-read_have : {M : Meaning} {list : List ℕ} {n : ℕ} {gs : List Name} → ReadTo M list n gs → AllHave M gs
+pub read_have : {M : Meaning} {list : List ℕ} {n : ℕ} {gs : List Name} → ReadTo M list n gs → AllHave M gs
 read_have start g known = absurd (omega (arith, known.1.below))
 read_have (turn e r t l f m) g known = meets_have m (read_have r) g known
 
@@ -112,7 +112,7 @@ module _ {M : Meaning} {list : List ℕ} (lawful : LawfulList list) where
       let x = h rs refers in
       rw (← x.first) at (halts start (the_list refl refl) lawful refers (subst (λ gs. Halts M gs rs f.kind f.place) none x.halts))
 
-  pub list_gathered : {gs gs' : List Name} {named : ℕ} {links : Links} (texts : List (List ℕ)) → gs ≡ [] → ((rs : List Reference) → Refers list rs → AllMet M gs rs gs' named) → links.len ≡ 0 → Gathering M list links.len gs' texts links
+  pub list_gathered : {gs gs' : List Name} {named : ℕ} {links : Links} (texts : List (List ℕ)) → gs ≡ [] → ((rs : List Reference) → Refers list rs → AllMet M gs rs gs' named) → links.len ≡ 0 → Progress M list links.len gs' texts links
   list_gathered {gs' = gs'} {links = links} texts none h rows =
       let (rs, refers) = references lawful in
       record {
@@ -124,7 +124,7 @@ module _ {M : Meaning} {list : List ℕ} (lawful : LawfulList list) where
         every = λ i g lt n. absurd (omega (arith, lt, rows));
       }
 
-module _ {M : Meaning} {list : List ℕ} {k : ℕ} {gs : List Name} {texts : List (List ℕ)} {links : Links} (g : Gathering M list k gs texts links) (here : k < length gs) where
+module _ {M : Meaning} {list : List ℕ} {k : ℕ} {gs : List Name} {texts : List (List ℕ)} {links : Links} (g : Progress M list k gs texts links) (here : k < length gs) where
   -- the group whose turn it is has a text
   pub has_text : (text : List ℕ) × (M (get_or gs k []) ≡ Some text)
   has_text = some_is (M (get_or gs k [])) (read_have g.read (get_or gs k []) (k, numbered_at k here))

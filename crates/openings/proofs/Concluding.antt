@@ -1,33 +1,29 @@
 -- What an opening answers, once all is known.
-use Rattle.std.proofs.Common.{◌≡◌, ℕ, ◌+◌, ◌<◌, List, [], length, get_or, refl, subst, arith}
-use lib.ListN.{length-map}
+use Rattle.std.proofs.Common.{◌≡◌, ℕ, ◌+◌, ◌<◌, ◌≤◌, List, [], length, get_or, Ok, Err, Result, refl, subst, arith}
 use Rattle.faults.specs.declared.fault.Fault.{Fault}
 use Rattle.faults.specs.Answers.{Refused}
 use Rattle.links.specs.declared.links.Links.{Links}
 use Rattle.lists.specs.Faults.{ListFault, long, slip, stuck, unclosed}
 use Rattle.books.specs.Tables.{Table}
-use Rattle.openings.specs.declared.gathered.Gathered.{Gathered}
 use Rattle.openings.specs.declared.opened.Opened.{Opened}
 use Rattle.openings.specs.References.{Reference, Refers}
 use Rattle.openings.specs.Opening.{Name, Meaning, Alike, start, the_list, the_group}
 use Rattle.openings.specs.Circles.{OnCircle}
-use Rattle.openings.specs.Opened.{names_of, in_text, Opens, OpenFault, unlawful}
-use Rattle.openings.specs.Tabled.{pairs}
-use Rattle.openings.specs.Holding.{known}
-use Rattle.openings.specs.Gathering.{text_in, texts_in, Gathering, AllGathered}
-use Rattle.openings.specs.Backing.{Closes}
+use Rattle.openings.specs.Opened.{in_text, Opens, OpenFault, unlawful}
+use Rattle.openings.specs.Pairs.{pairs}
+use Rattle.openings.specs.Progress.{Progress}
+use Rattle.openings.specs.BackReferences.{Closes}
 use Rattle.openings.specs.Whole.{Tells}
-use Rattle.openings.specs.Answers.{list_of, groups_of, OpenedAs}
+use Rattle.openings.specs.Answers.{list_of, groups_of, OpenedAs, Answered}
 use Rattle.openings.proofs.Meeting.{meets_keeps}
 use Rattle.openings.proofs.Turns.{read_before, text_keeps, text_one}
 use Rattle.openings.proofs.Answering.{one_answer, complete, same_answer}
-use Rattle.openings.proofs.Holding.{known_count}
 use Rattle.openings.proofs.Leading.{gathered_opens}
 use Rattle.openings.proofs.Tabling.{pairs_names, pairs_texts}
 use Rattle.openings.proofs.Telling.{tells}
 
 -- the references of a group's text
-pub text_refers : {M : Meaning} {list : List ℕ} {gs : List Name} {texts : List (List ℕ)} {links : Links} → Gathering M list (length gs) gs texts links → (k : ℕ) → k < length gs → (rs : List Reference) × Refers (get_or texts k []) rs
+pub text_refers : {M : Meaning} {list : List ℕ} {gs : List Name} {texts : List (List ℕ)} {links : Links} → Progress M list (length gs) gs texts links → (k : ℕ) → k < length gs → (rs : List Reference) × Refers (get_or texts k []) rs
 text_refers {M} {list} {gs} {texts} all k lt =
     let r = read_before all.read (k + 1) (omega arith) in
     let same = text_one (text_keeps (λ g n x. r.keeps g n (meets_keeps r.this.meets x)) r.this.here) (the_group k refl lt (all.texts_held k lt)) in
@@ -56,17 +52,15 @@ opened_as {M} {list} o same opens = record { same = same; opens = opens; only = 
 pub opened_alike : {M M' : Meaning} {list : List ℕ} (o : Opened) → list_of o ≡ list → Opens M list (groups_of o) → Alike M M' list → OpenedAs M' list o
 opened_alike {M} {M'} {list} o same opens alike = opened_as o same ((same_answer list M M' alike).groups (groups_of o) opens)
 
-module _ {M : Meaning} {list : List ℕ} (gathered : Gathered) (room : length gathered.texts ≡ 32) (all : AllGathered M list gathered) where
-  -- the groups that were gathered, as a table
-  abbrev pub table_in : Table
-  table_in = pairs (known gathered.known) (texts_in gathered.texts)
+-- an answer is one by every meaning that agrees on the names that were looked up
+pub answered_alike : {M M' : Meaning} {list : List ℕ} (r : Result Opened Fault) → Answered M list r → Alike M M' list → Answered M' list r
+answered_alike (Ok o) a alike = opened_alike o a.same a.opens alike
+answered_alike (Err f) a alike = refused_alike a.told alike
 
-  pub names_in : names_of table_in ≡ known gathered.known
-  names_in = pairs_names _ _ (omega (arith, known_count gathered.known, gathered.known.few, length-map gathered.texts text_in, room))
+module _ {M : Meaning} {list : List ℕ} {gs : List Name} {texts : List (List ℕ)} {links : Links} (enough : length gs ≤ length texts) (all : Progress M list (length gs) gs texts links) where
+  -- without a circle the list opens to the groups that were read
+  pub table_opens : ((i place : ℕ) → OnCircle M gs i place → ⊥) → Opens M list (pairs gs texts)
+  table_opens none = gathered_opens all none (pairs gs texts) (pairs_names gs texts enough) (pairs_texts all)
 
-  -- without a circle the list opens to them
-  pub table_opens : ((i place : ℕ) → OnCircle M (known gathered.known) i place → ⊥) → Opens M list table_in
-  table_opens none = gathered_opens all none table_in names_in (pairs_texts all)
-
-  pub table_tells : (leads : Links) → Closes gathered.links leads → Opens M list table_in → Tells table_in leads
-  table_tells leads closes opens = tells all leads closes table_in names_in opens
+  pub table_tells : (leads : Links) → Closes links leads → Opens M list (pairs gs texts) → Tells (pairs gs texts) leads
+  table_tells leads closes opens = tells all leads closes (pairs gs texts) (pairs_names gs texts enough) opens

@@ -9,13 +9,13 @@ use Rattle.std.proofs.lemmas.List.Quantifiers.{position-Some}
 use Rattle.std.proofs.lemmas.List.Sums.{fails_before_first}
 use Rattle.std.proofs.lemmas.Slice.Eq.{bytes_eq-Decides}
 use Rattle.std.specs.List.{position, position_or_len}
-use Rattle.std.specs.Option.{option_map}
 use Rattle.std.specs.Str.{bytes_eq}
 use Rattle.lists.specs.declared.group_name.GroupName.{GroupName}
 use Rattle.openings.specs.declared.known.KnownGroups.{KnownGroups}
 use Rattle.openings.specs.Opening.{Name, Numbered, Known}
-use Rattle.openings.specs.Naming.{name_of, names_in}
-use Rattle.openings.specs.Holding.{known}
+use Rattle.openings.specs.Views.{name_of, names_in}
+use Rattle.openings.specs.KnownNames.{known}
+use Rattle.openings.specs.Membership.{having}
 
 -- the first place of a name is its number
 pub place_numbered : (ns : List GroupName) (g : Name) (r : Option ℕ) → r ≡ position (λ n. bytes_eq (name_of n) g) ns → MatchOption r (Known (names_in ns) g → ⊥) (λ k. Numbered (names_in ns) g k)
@@ -44,9 +44,10 @@ names_more K n g few held =
 pub last_numbered : (gs : List Name) (g : Name) (n : ℕ) → length gs ≡ n → Numbered (gs ++ (g ∷ [])) g n
 last_numbered gs g n e = record { below = omega (arith, length-append gs (g ∷ [])); is = get_or_at gs g [] [] n e }
 
--- a text's length is there exactly if the text is
-pub no_length : (o : Option (List ℕ)) (l : Option ℕ) → l ≡ option_map length o → is_some l ≡ false → o ≡ None
-no_length o l e f = grind (arith, common_steps)
+-- a name that is there is had, and no other is
+module _ (has : Name → Bool) (g : Name) where
+  pub had : has g ≡ true → is_some (having has g) ≡ true
+  had e = grind (arith, common_steps)
 
-pub some_length : (o : Option (List ℕ)) (l : Option ℕ) → l ≡ option_map length o → is_some l ≡ true → is_some o ≡ true
-some_length o l e f = grind (arith, common_steps)
+  pub not_had : has g ≡ false → having has g ≡ None
+  not_had e = grind (arith, common_steps)

@@ -10,9 +10,9 @@ use Rattle.openings.specs.References.{Reference, Refers, RefersAt}
 use Rattle.openings.specs.Opening.{Name, Meaning, Numbered, Known, ReadTo}
 use Rattle.openings.specs.Circles.{Names, Leads, here, on, LeadsOn, OnCircle, FirstOnCircle}
 use Rattle.openings.specs.Opened.{names_of, fault_in, Opens, OpenFault, circle}
-use Rattle.openings.specs.Meeting.{Named}
-use Rattle.openings.specs.Gathering.{Gathering}
-use Rattle.openings.specs.Backing.{Closes, Back, FirstBack}
+use Rattle.openings.specs.MetReferences.{Named}
+use Rattle.openings.specs.Progress.{Progress}
+use Rattle.openings.specs.BackReferences.{Closes, Back, FirstBack}
 use Rattle.openings.proofs.Knowing.{numbered_at}
 use Rattle.openings.proofs.Collecting.{refers_named}
 use Rattle.openings.proofs.Turns.{read_distinct}
@@ -25,7 +25,7 @@ step_chain : {Step : ℕ → ℕ → Type 0} {i m j : ℕ} → Step i m → (m �
 step_chain {Step} {i} s (inl e) = one (subst (Step i) e s)
 step_chain s (inr c) = more s c
 
-module _ {M : Meaning} {list : List ℕ} {gs : List Name} {texts : List (List ℕ)} {links : Links} (all : Gathering M list (length gs) gs texts links) where
+module _ {M : Meaning} {list : List ℕ} {gs : List Name} {texts : List (List ℕ)} {links : Links} (all : Progress M list (length gs) gs texts links) where
   -- a chain of links goes from group to group
   pub chain_leads : {i j : ℕ} → Chain (Linked links) i j → (i < length gs) × ((j < length gs) × LeadsOn M (get_or gs i []) (get_or gs j []))
   chain_leads {i} {j} (one l) =
@@ -125,7 +125,7 @@ module _ {M : Meaning} {list : List ℕ} {gs : List Name} {texts : List (List �
             has = all.texts_held home lt;
             named = b.name;
             refers = record { before = b.before; after = b.after; refers = subst (Refers text) b.whole f };
-            back = back_leads home lt b.name b.leads_back;
+            back = back_leads home lt b.name b.is;
           };
           first = λ j q c.
               ⊎_elim

@@ -18,3 +18,10 @@ pub mod Tabling
 pub mod Telling
 pub mod Concluding
 pub mod Viewing
+pub mod Deciding
+pub mod Meanings
+pub mod Pairing
+pub mod Lacking
+pub mod States
+pub mod Giving
+pub mod Beginning

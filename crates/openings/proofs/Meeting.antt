@@ -5,7 +5,7 @@ use Rattle.std.proofs.lemmas.List.{length_push}
 use Rattle.faults.specs.declared.kind.Kind.{Kind}
 use Rattle.openings.specs.References.{Reference}
 use Rattle.openings.specs.Opening.{Name, Meaning, Numbered, Known, Meets, again, new, MeetsAll, met, meet, Halts, surplus, lacking, later, ChecksFor, now_checked, later_checked, Distinct}
-use Rattle.openings.specs.Meeting.{Named}
+use Rattle.openings.specs.MetReferences.{Named}
 use Rattle.openings.proofs.Knowing.{push_keeps, push_known, push_source, push_distinct}
 
 module _ {M : Meaning} where
@@ -32,12 +32,12 @@ module _ {M : Meaning} where
   meets_all_one {b = b} (meet {rs = rs} m ms) (meet m' ms') = meets_all_one ms (subst (λ x. MeetsAll M x rs b) (meets_one m' m) ms')
 
   -- no 33rd group is met
-  no_surplus : {gs a : List Name} {g : Name} → (Known gs g → ⊥) → 32 ≤ length gs → Meets M gs g a → ⊥
+  pub no_surplus : {gs a : List Name} {g : Name} → (Known gs g → ⊥) → 32 ≤ length gs → Meets M gs g a → ⊥
   no_surplus n le (again k) = n k
   no_surplus n le (new n' lt s) = omega arith
 
   -- nor one that the book lacks
-  no_lacking : {gs a : List Name} {g : Name} → (Known gs g → ⊥) → M g ≡ None → Meets M gs g a → ⊥
+  pub no_lacking : {gs a : List Name} {g : Name} → (Known gs g → ⊥) → M g ≡ None → Meets M gs g a → ⊥
   no_lacking n e (again k) = n k
   no_lacking n e (new n' lt s) = clash (sym (ap is_some e) ∙ s)
 

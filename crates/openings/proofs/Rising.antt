@@ -4,7 +4,7 @@ use Rattle.lists.specs.Trees.{Sign}
 use Rattle.lists.specs.Placed.{Placed, none, more}
 use Rattle.openings.specs.References.{Reference, noted, references_of, Refers, RefersAt}
 use Rattle.openings.specs.Opening.{Name}
-use Rattle.openings.specs.Meeting.{Named}
+use Rattle.openings.specs.MetReferences.{Named}
 use Rattle.openings.proofs.Referring.{refers_one}
 
 -- every reference is at the place or after it

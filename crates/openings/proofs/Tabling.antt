@@ -4,8 +4,8 @@ use Rattle.std.specs.List.{AllByRecursion}
 use Rattle.links.specs.declared.links.Links.{Links}
 use Rattle.openings.specs.Opening.{Name, Meaning}
 use Rattle.openings.specs.Opened.{names_of, texts_of}
-use Rattle.openings.specs.Gathering.{Gathering}
-use Rattle.openings.specs.Tabled.{pairs}
+use Rattle.openings.specs.Progress.{Progress}
+use Rattle.openings.specs.Pairs.{pairs}
 use Rattle.openings.proofs.TableTexts.{Texts}
 
 -- the table has the names, if there are texts enough
@@ -27,5 +27,5 @@ texts_paired M (g ∷ gs) [] have = tt
 texts_paired M (g ∷ gs) (text ∷ texts) have = (have 0 (omega arith), texts_paired M gs texts (λ i lt. have (suc i) (omega arith)))
 
 -- so it is with all groups that have been read
-pub pairs_texts : {M : Meaning} {list : List ℕ} {gs : List Name} {texts : List (List ℕ)} {links : Links} → Gathering M list (length gs) gs texts links → AllByRecursion (λ e. M e.name ≡ Some e.text) (pairs gs texts)
+pub pairs_texts : {M : Meaning} {list : List ℕ} {gs : List Name} {texts : List (List ℕ)} {links : Links} → Progress M list (length gs) gs texts links → AllByRecursion (λ e. M e.name ≡ Some e.text) (pairs gs texts)
 pairs_texts {M} {gs = gs} {texts = texts} all = texts_paired M gs texts all.texts_held

@@ -6,8 +6,8 @@ use Rattle.books.specs.Tables.{Table, text_of}
 use Rattle.openings.specs.Opening.{Name, Meaning, Known}
 use Rattle.openings.specs.Circles.{LeadsOn}
 use Rattle.openings.specs.Opened.{names_of, Opens}
-use Rattle.openings.specs.Gathering.{Gathering}
-use Rattle.openings.specs.Backing.{Closes}
+use Rattle.openings.specs.Progress.{Progress}
+use Rattle.openings.specs.BackReferences.{Closes}
 use Rattle.openings.specs.Whole.{Tells}
 use Rattle.openings.proofs.Turns.{read_distinct}
 use Rattle.openings.proofs.Circling.{named_known, names_across, leads_across}
@@ -15,7 +15,7 @@ use Rattle.openings.proofs.TableTexts.{length_names, text_known}
 use Rattle.openings.proofs.Answering.{opens_all, opens_own}
 use Rattle.openings.proofs.Leading.{chain_leads, leads_back}
 
-module _ {M : Meaning} {list : List ℕ} {gs : List Name} {texts : List (List ℕ)} {links : Links} (all : Gathering M list (length gs) gs texts links) where
+module _ {M : Meaning} {list : List ℕ} {gs : List Name} {texts : List (List ℕ)} {links : Links} (all : Progress M list (length gs) gs texts links) where
   module _ (leads : Links) (closes : Closes links leads) where
     linked_leads : (i j : ℕ) → Linked leads i j → (i < length gs) × ((j < length gs) × LeadsOn M (get_or gs i []) (get_or gs j []))
     linked_leads i j l = chain_leads all ((closes i j).0 l)

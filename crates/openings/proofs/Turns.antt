@@ -61,7 +61,7 @@ module _ {M : Meaning} {list : List ℕ} where
   turn_one {gs} {b = b} s t = meets_all_one s.meets (subst (λ rs. MeetsAll M gs rs b) (references_one t.here t.refers s.here s.refers) t.meets)
 
   -- a turn, from its parts
-  taken : {gs hs : List Name} {i : ℕ} {text : List ℕ} {rs : List Reference} → TextAt M list gs i text → LawfulList text → Refers text rs → MeetsAll M gs rs hs → Turn M list gs i hs
+  pub taken : {gs hs : List Name} {i : ℕ} {text : List ℕ} {rs : List Reference} → TextAt M list gs i text → LawfulList text → Refers text rs → MeetsAll M gs rs hs → Turn M list gs i hs
   taken at l f ms = record { text = _; here = at; lawful = l; references = _; refers = f; meets = ms }
 
   -- as many texts are read in one way

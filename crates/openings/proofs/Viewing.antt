@@ -4,8 +4,8 @@ use lib.ListN.{length-map}
 use Rattle.std.proofs.lemmas.List.{take-map}
 use Rattle.openings.specs.declared.opened.Opened.{Opened}
 use Rattle.openings.specs.Opened.{names_of, texts_of}
-use Rattle.openings.specs.Holding.{known}
-use Rattle.openings.specs.Gathering.{text_in, texts_in}
+use Rattle.openings.specs.KnownNames.{known}
+use Rattle.openings.specs.Views.{text_in, texts_in}
 use Rattle.openings.specs.Answers.{groups_of}
 use Rattle.openings.proofs.Holding.{known_count}
 use Rattle.openings.proofs.TableTexts.{length_names}

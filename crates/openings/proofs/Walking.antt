@@ -6,7 +6,7 @@ use Rattle.lists.specs.declared.token.Lexeme.{Lexeme}
 use Rattle.lists.specs.Placed.{Placed, Walks}
 use Rattle.openings.specs.References.{Reference, references_of}
 use Rattle.openings.specs.Opening.{Name, Meaning, Numbered, Meets, again, new, met, meet}
-use Rattle.openings.specs.Meeting.{Named, AllMet}
+use Rattle.openings.specs.MetReferences.{Named, AllMet}
 use Rattle.openings.proofs.Meeting.{meets_append}
 use Rattle.openings.proofs.Knowing.{push_keeps}
 

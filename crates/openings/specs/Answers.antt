@@ -7,9 +7,9 @@ use Rattle.openings.specs.declared.opened.Opened.{Opened}
 use Rattle.openings.specs.Opening.{Meaning}
 use Rattle.openings.specs.Opened.{Opens, OpenFault}
 use Rattle.openings.specs.Laws.{Complete}
-use Rattle.openings.specs.Tabled.{pairs}
-use Rattle.openings.specs.Holding.{known}
-use Rattle.openings.specs.Gathering.{text_in, texts_in}
+use Rattle.openings.specs.Pairs.{pairs}
+use Rattle.openings.specs.KnownNames.{known}
+use Rattle.openings.specs.Views.{text_in, texts_in}
 
 -- the list that was opened, and the groups that it reached with their texts, in the order of meeting
 abbrev pub list_of : Opened → List ℕ

@@ -1,12 +1,11 @@
-//! Opening a list: every group that it reaches is found in a book, read and checked.
+//! Opening a list: every group that it reaches is read and checked, through a book or text by text.
 #![tactic(auto)]
 
-mod circle;
-mod gather;
-mod gathered;
+pub mod in_book;
 pub mod known;
-mod meet;
+pub mod membership;
 pub mod open;
 pub mod opened;
-mod read;
-mod view;
+pub mod opening;
+mod reference;
+pub mod supposed;

@@ -1,61 +1,44 @@
-use Rattle.std.proofs.Common.{◌≡◌, ◌∙◌, length, rules, sym, subst}
+use Rattle.std.proofs.Common.{[], is_some, ap, ◌∙◌, subst}
 use Rattle.std.proofs.lemmas.Result.{err_from_is_err_and}
-use Rattle.texts.specs.Shown.{shown}
-use Rattle.lists.specs.Texts.{LawfulList}
+use Rattle.lists.proofs.Deciding.{lawful_list}
 use Rattle.books.specs.Tables.{text_of}
-use Rattle.openings.specs.Opened.{Opens, OpenFault}
-use Rattle.openings.proofs.Answering.{opens_own}
-use Rattle.openings.proofs.Concluding.{list_told, refused, refused_alike, opened_as, opened_alike, table_in, table_opens, table_tells}
+use Rattle.openings.specs.Opening.{Name, Meaning}
+use Rattle.openings.specs.Opened.{OpenFault}
+use Rattle.openings.specs.Membership.{Agrees}
+use Rattle.openings.specs.Answers.{Answered}
+use Rattle.openings.proofs.Concluding.{refused, refused_alike, answered_alike}
+use Rattle.openings.proofs.Beginning.{reads_well, through, halted}
 use Rattle.openings.proofs.open.open.Goals as goal
 
-pub returns-in_err-list : goal.returns-in_err-list
-returns-in_err-list g c =
+pub of-opening-requires : goal.of-opening-requires
+of-opening-requires g c = reads_well (λ (h : Name). is_some (text_of (g.B.Book.table c.of.result.book.now) h)) (lawful_list _ c.args.list.now.lawful) c.in_ok-names.ensures
+
+pub returns-clause-answer : goal.returns-clause-answer
+returns-clause-answer g c =
+    let M : Meaning = text_of (g.B.Book.table c.args.book.now) in
+    let agree : Agrees [] (λ h. is_some (text_of (g.B.Book.table c.of.result.book.now) h)) M = λ h unknown. ap (λ b. is_some (text_of (g.B.Book.table b) h)) c.of.ensures in
+    let read = c.in_ok-read_groups.ensures (through (λ (h : Name). is_some (text_of (g.B.Book.table c.of.result.book.now) h)) (lawful_list _ c.args.list.now.lawful) c.in_ok-names.ensures c.of-opening.result c.of-opening.ensures.met c.of-opening.ensures.none_given M agree) in
+    subst (λ t. Answered M t c.finish.result) (read.of_list ∙ c.of-opening.ensures.list) (c.finish.ensures.all_given M read.none_due read.through)
+
+pub returns-clause-alike : goal.returns-clause-alike
+returns-clause-alike g c M alike = answered_alike c.finish.result (returns-clause-answer g c) alike
+
+pub returns-in_err-names-clause-answer : goal.returns-in_err-names-clause-answer
+returns-in_err-names-clause-answer g c =
+    let M : Meaning = text_of (g.B.Book.table c.args.book.now) in
+    let agree : Agrees [] (λ h. is_some (text_of (g.B.Book.table c.of.result.book.now) h)) M = λ h unknown. ap (λ b. is_some (text_of (g.B.Book.table b) h)) c.of.ensures in
     let p = err_from_is_err_and c.from_residual.result c.from_residual.ensures.1 in
-    let told = c.in_err-list.ensures.answer.told in
-    rw (p.1, p.2) (record { answer = refused (list_told told); alike = λ M alike. refused_alike (list_told told) alike })
+    rw (p.1, p.2) (refused (halted (λ (h : Name). is_some (text_of (g.B.Book.table c.of.result.book.now) h)) (lawful_list _ c.args.list.now.lawful) c.in_err-names.ensures M agree))
 
-pub returns-in_err-gather : goal.returns-in_err-gather
-returns-in_err-gather g c =
-    let p = err_from_is_err_and c.from_residual-in_err-gather.result c.from_residual-in_err-gather.ensures.1 in
-    let M = text_of (g.B.Book.table c.args.book.now) in
-    let new = c.in_ok-list.ensures.answer in
-    let told = subst (λ t. OpenFault M t c.in_err-gather.field-0.0) new.0 (c.in_err-gather.ensures.all c.new-groups.ensures (subst LawfulList (sym new.0) new.1.lawful)) in
-    rw (p.1, p.2) (record { answer = refused told; alike = λ M alike. refused_alike told alike })
+pub returns-in_err-names-clause-alike : goal.returns-in_err-names-clause-alike
+returns-in_err-names-clause-alike g c M alike = answered_alike c.from_residual.result (returns-in_err-names-clause-answer g c) alike
 
-pub returns-in_err-check_circles : goal.returns-in_err-check_circles
-returns-in_err-check_circles g c =
-    let p = err_from_is_err_and c.from_residual-in_err-check_circles.result c.from_residual-in_err-check_circles.ensures.1 in
-    let M = text_of (g.B.Book.table c.args.book.now) in
-    let new = c.in_ok-list.ensures.answer in
-    let text = shown c.in_ok-list.list.text in
-    let all = c.in_ok-gather.ensures.all c.new-groups.ensures (subst LawfulList (sym new.0) new.1.lawful) in
-    let told = subst (λ t. OpenFault M t c.in_err-check_circles.field-0.0) new.0 (c.in_err-check_circles.ensures M text all c.closed-leads.ensures.links) in
-    rw (p.1, p.2) (record { answer = refused told; alike = λ M alike. refused_alike told alike })
+pub returns-in_err-read_groups-clause-answer : goal.returns-in_err-read_groups-clause-answer
+returns-in_err-read_groups-clause-answer g c =
+    let M : Meaning = text_of (g.B.Book.table c.args.book.now) in
+    let agree : Agrees [] (λ h. is_some (text_of (g.B.Book.table c.of.result.book.now) h)) M = λ h unknown. ap (λ b. is_some (text_of (g.B.Book.table b) h)) c.of.ensures in
+    let p = err_from_is_err_and c.from_residual-in_err-read_groups.result c.from_residual-in_err-read_groups.ensures.1 in
+    rw (p.1, p.2) (refused (subst (λ t. OpenFault M t c.in_err-read_groups.field-0.0) c.of-opening.ensures.list (c.in_err-read_groups.ensures (through (λ (h : Name). is_some (text_of (g.B.Book.table c.of.result.book.now) h)) (lawful_list _ c.args.list.now.lawful) c.in_ok-names.ensures c.of-opening.result c.of-opening.ensures.met c.of-opening.ensures.none_given M agree))))
 
-pub invariant_of-result : goal.invariant_of-result
-invariant_of-result g c =
-    let M = text_of (g.B.Book.table c.args.book.now) in
-    let new = c.in_ok-list.ensures.answer in
-    let text = shown c.in_ok-list.list.text in
-    let groups = c.gather.new.self in
-    let room = c.in_ok-gather.ensures.room in
-    let all = c.in_ok-gather.ensures.all c.new-groups.ensures (subst LawfulList (sym new.0) new.1.lawful) in
-    let closes = c.closed-leads.ensures.links in
-    let opens = table_opens groups room all (c.in_ok-check_circles.ensures M text all closes) in
-    record {
-      room = room;
-      counted = c.closed-leads.ensures.count ∙ all.rows;
-      whole = ∣ opens_own M text (table_in groups room all) opens ∣₁;
-      ordered = ∣ table_tells groups room all c.closed-leads.result closes opens ∣₁;
-    }
-
-pub returns : goal.returns
-returns g c =
-    let M = text_of (g.B.Book.table c.args.book.now) in
-    let new = c.in_ok-list.ensures.answer in
-    let text = shown c.in_ok-list.list.text in
-    let groups = c.gather.new.self in
-    let room = c.in_ok-gather.ensures.room in
-    let all = c.in_ok-gather.ensures.all c.new-groups.ensures (subst LawfulList (sym new.0) new.1.lawful) in
-    let opens = subst (λ t. Opens M t (table_in groups room all)) new.0 (table_opens groups room all (c.in_ok-check_circles.ensures M text all c.closed-leads.ensures.links)) in
-    record { answer = opened_as _ new.0 opens; alike = λ M alike. opened_alike _ new.0 opens alike }
+pub returns-in_err-read_groups-clause-alike : goal.returns-in_err-read_groups-clause-alike
+returns-in_err-read_groups-clause-alike g c M alike = answered_alike c.from_residual-in_err-read_groups.result (returns-in_err-read_groups-clause-answer g c) alike

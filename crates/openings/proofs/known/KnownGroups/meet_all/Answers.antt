@@ -1,11 +1,11 @@
 use Rattle.std.proofs.Common.{◌≡◌, rules, ◌<◌, List, ◌∷◌, sym, refl, ap, ◌∙◌, subst, arith}
 use Rattle.texts.specs.Shown.{shown}
 use Rattle.lists.specs.Lexemes.{sign}
-use Rattle.books.specs.Tables.{text_of}
+use Rattle.openings.specs.Membership.{having}
 use Rattle.openings.specs.References.{Reference, references_of}
 use Rattle.openings.specs.Opening.{Halts}
-use Rattle.openings.specs.Holding.{known}
-use Rattle.openings.specs.Meeting.{AllMet}
+use Rattle.openings.specs.KnownNames.{known}
+use Rattle.openings.specs.MetReferences.{AllMet}
 use Rattle.openings.proofs.Holding.{known_count}
 use Rattle.std.proofs.lemmas.Result.{err_from_is_err_and}
 use Rattle.openings.proofs.Outcomes.{err_source, ok_source}
@@ -15,7 +15,7 @@ use Rattle.openings.proofs.known.KnownGroups.meet_all.Goals as goal
 
 pub loop-lexeme-init : goal.loop-lexeme-init
 loop-lexeme-init g c =
-    let Holds : List Reference → Type 0 = λ rs. AllMet (text_of (g.B.Book.table c.args.book.now)) (known c.args.self.now) rs (known c.args.self.now) c.empty-named.result.digits in
+    let Holds : List Reference → Type 0 = λ rs. AllMet (having (g.M.Membership.has c.args.members.now)) (known c.args.self.now) rs (known c.args.self.now) c.empty-named.result.digits in
     let same = c.into_iter-lexeme-iterator.ensures.into_iter_gives in (
       tt,
       tt,
@@ -42,7 +42,7 @@ loop-lexeme-preserved-in-Group g c =
 pub returns-in_err-k : goal.returns-in_err-k
 returns-in_err-k g c rs refers =
     let p = err_from_is_err_and c.from_residual.result c.from_residual.ensures.1 in
-    let M = text_of (g.B.Book.table c.args.book.now) in
+    let M = having (g.M.Membership.has c.args.members.now) in
     let u = c.loop-lexeme.invariant.3 refers.tokens refers.placed in
     let (rest, step) = (walked c.loop-lexeme.invariant.2 c.in-Some.ensures.steps).token u.left u.placed in
     let place = c.in-Some.lexeme.place in

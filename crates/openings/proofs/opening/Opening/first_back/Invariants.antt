@@ -1,0 +1,18 @@
+use Rattle.std.proofs.Common.{◌≡◌, ℕ, List}
+use Rattle.lists.specs.Trees.{Sign}
+use Rattle.lists.specs.Placed.{Placed}
+use Rattle.openings.specs.Opening.{Name}
+use Rattle.openings.specs.KnownNames.{known}
+use Rattle.openings.specs.MetReferences.{Named}
+use Rattle.openings.specs.Views.{text_in}
+use Rattle.openings.specs.BackReferences.{Back}
+use Rattle.openings.proofs.Walking.{Passing}
+use Rattle.openings.proofs.opening.Opening.first_back.Given as goal
+
+-- no reference before the place where the walk stands leads back
+abbrev pub invariant-loop-lexeme : goal.invariant-loop-lexeme
+invariant-loop-lexeme l =
+    (goal.iterator-loop-lexeme).can_next l.lexeme-iterator
+    × (goal.iterator-loop-lexeme).is_finite l.lexeme-iterator
+    × (l.lexeme-iterator.text.now ≡ text_in l.text)
+    × ((ps : List (ℕ × Sign)) → Placed (text_in l.text) 0 ps → Passing (text_in l.text) (λ rs. (h : Name) → Named rs h → Back (known l.self.names) l.leads l.home h → ⊥) ps l.lexeme-iterator.at)
