@@ -5,9 +5,10 @@ use Rattle.std.proofs.ByRecursion.{All-weaker}
 use Rattle.std.proofs.lemmas.Bool.{and_parts}
 use Rattle.std.specs.List.{AllByRecursion, list_all}
 use Rattle.names.specs.Names.{Part}
+use Rattle.names.specs.Rules.{exact}
 use Rattle.lists.specs.Texts.{LawfulList}
 use Rattle.books.specs.Tables.{Table}
-use Rattle.derivations.specs.Derives.{exact, TreeDerives, GroupOf, ListDerives}
+use Rattle.derivations.specs.Derives.{TreeDerives, GroupOf, ListDerives}
 use Rattle.derivations.specs.Cases.{Case, Holds}
 use Rattle.derivations.proofs.Cutting.{tree_of, tree_of_lem, reads_as_list, lawful_list, reads_tree}
 use Rattle.lists.proofs.Elements.{every_passed}

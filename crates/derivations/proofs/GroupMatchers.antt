@@ -7,7 +7,8 @@ use Rattle.std.specs.List.{AllByRecursion, list_all}
 use Rattle.std.specs.Str.{bytes_eq}
 use Rattle.lists.specs.Trees.{Tree}
 use Rattle.books.specs.Tables.{Table, text_of}
-use Rattle.derivations.specs.Derives.{exact, TreeDerives, GroupOf}
+use Rattle.names.specs.Rules.{exact}
+use Rattle.derivations.specs.Derives.{TreeDerives, GroupOf}
 use Rattle.derivations.specs.References.{tree_groups}
 use Rattle.derivations.proofs.Cutting.{tree_of, tree_of_lem, reads_as_list, reads_tree}
 use Rattle.lists.proofs.Elements.{every_passed}

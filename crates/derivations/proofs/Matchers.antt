@@ -8,9 +8,10 @@ use Rattle.std.specs.List.{AllByRecursion, list_all}
 use Rattle.std.specs.Str.{bytes_eq}
 use Rattle.names.specs.Words.{word_byte, Word}
 use Rattle.names.specs.Names.{Part, word, dot, at, plus, Partial, single, dotted}
+use Rattle.names.specs.Rules.{exact}
 use Rattle.lists.specs.Trees
 use Rattle.lists.specs.Trees.{Atom, any}
-use Rattle.derivations.specs.Derives.{exact, AtomDerives, a_word, a_dot, an_at, a_plus, a_partial}
+use Rattle.derivations.specs.Derives.{AtomDerives, a_word, a_dot, an_at, a_plus, a_partial}
 use Rattle.lists.proofs.Elements.{every_passed}
 
 abbrev pub Matcher : Type 0

@@ -4,8 +4,9 @@ use borrow.Author.Tests.{clash}
 use Rattle.std.proofs.lemmas.Bool.{or_cases, or_left, or_right}
 use Rattle.std.specs.List.{AllByRecursion}
 use Rattle.names.specs.Names.{Part}
+use Rattle.names.specs.Rules.{exact}
 use Rattle.lists.specs.Trees.{Atom, Item, plain, bracket, starred, named, Seq, one, then, Alts, only, or, Tree, empty, list}
-use Rattle.derivations.specs.Derives.{exact, AtomDerives, ItemDerives, by_atom, by_bracket, no_runs, more_runs, by_group, SeqDerives, by_item, by_items, AltsDerives, by_only, by_earlier, by_last, TreeDerives, by_list}
+use Rattle.derivations.specs.Derives.{AtomDerives, ItemDerives, by_atom, by_bracket, no_runs, more_runs, by_group, SeqDerives, by_item, by_items, AltsDerives, by_only, by_earlier, by_last, TreeDerives, by_list}
 use Rattle.derivations.specs.References.{item_groups, seq_groups, alts_groups, tree_groups}
 use Rattle.lists.proofs.Elements.{every_front, every_back}
 use Rattle.derivations.proofs.Matchers.{Matcher, Found, other_run, Exact, atom, atom_exact}

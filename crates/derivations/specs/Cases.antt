@@ -3,9 +3,10 @@ use Rattle.std.specs.Prelude.{ℕ, Bool, true, false, List, [], ◌∷◌, codes
 use Prim.Native.String.{String}
 use Rattle.std.specs.List.{AllByRecursion}
 use Rattle.names.specs.Names.{LawfulName}
+use Rattle.names.specs.Rules.{exact}
 use Rattle.lists.specs.Texts.{LawfulList}
 use Rattle.books.specs.Tables.{Table}
-use Rattle.derivations.specs.Derives.{exact, ListDerives}
+use Rattle.derivations.specs.Derives.{ListDerives}
 
 -- a list with its groups, a name, and whether the list derives the name
 pub record Case : Type 0 where

@@ -43,10 +43,6 @@ module _ (Same : List ℕ → List ℕ → Type 0) where
       pub data TreeDerives : Tree → List Part → Type 0 where
         by_list : {l : Alts} {ps : List Part} → AltsDerives l ps → TreeDerives (list l) ps
 
--- words are the same if their bytes are
-abbrev pub exact : List ℕ → List ℕ → Type 0
-exact w v = w ≡ v
-
 -- the trees that the groups of a table stand for: the table has a text for the name, and the text reads as the tree
 abbrev pub GroupOf : Table → List ℕ → Tree → Type 0
 GroupOf table g t = (text : List ℕ) × ((text_of table g ≡ Some text) × Reads text t)

@@ -1,29 +1,46 @@
 //! What lists derive, and lists that would make a slower matcher run on, as tests.
 #![tactic(auto)]
 
+pub mod lax;
+
 #[cfg(test)]
 mod tests {
-    use books::row::Group;
+    use super::lax::Lax;
+    use books::group::Group;
     use books::table::{TABLE_ROWS, TableBook};
     use faults::lawful::LawfulText;
-    use matching::derives;
+    use lists::list::AccessList;
+    use matching::judgement::judge;
     use names::name::Name;
-    use openings::open::open;
+    use names::rule::{ExactBytes, WordRule};
     use std::array;
 
-    // Whether the list opens through the book and derives the name, or none where one of them is refused.
-    fn verdict(book: &TableBook<'_>, name: &[u8], list: &[u8]) -> Option<bool> {
+    // Whether the list opens through the book and derives the name by the rule, or none where one of them is refused.
+    fn verdict<R: WordRule>(
+        rule: &R,
+        book: &TableBook<'_>,
+        name: &[u8],
+        list: &[u8],
+    ) -> Option<bool> {
         let name = Name::new(name).ok()?;
-        let opened = open(list, book).ok()?;
-        Some(derives(&opened, &name))
+        let list = AccessList::new(list).ok()?;
+        Some(judge(&list, &name, book, rule).ok()?.is_grant())
+    }
+
+    fn yes_by<R: WordRule>(rule: &R, book: &TableBook<'_>, name: &[u8], list: &[u8]) -> bool {
+        verdict(rule, book, name, list) == Some(true)
+    }
+
+    fn no_by<R: WordRule>(rule: &R, book: &TableBook<'_>, name: &[u8], list: &[u8]) -> bool {
+        verdict(rule, book, name, list) == Some(false)
     }
 
     fn yes(book: &TableBook<'_>, name: &[u8], list: &[u8]) -> bool {
-        verdict(book, name, list) == Some(true)
+        yes_by(&ExactBytes, book, name, list)
     }
 
     fn no(book: &TableBook<'_>, name: &[u8], list: &[u8]) -> bool {
-        verdict(book, name, list) == Some(false)
+        no_by(&ExactBytes, book, name, list)
     }
 
     // Letters with a mark at every second place, `N` bytes in all.
@@ -90,8 +107,40 @@ mod tests {
         assert!(rt; no(&book, b"a", b"{none}"));
         assert!(rt; no(&book, b"a", b"a {none}"));
         assert!(rt; yes(&book, b"a", b"a {none}*"));
-        assert!(rt; verdict(&book, b"a b", b"a").is_none());
-        assert!(rt; verdict(&book, b"a", b"{h}").is_none());
+        assert!(rt; verdict(&ExactBytes, &book, b"a b", b"a").is_none());
+        assert!(rt; verdict(&ExactBytes, &book, b"a", b"{h}").is_none());
+    }
+
+    #[test]
+    fn words_in_any_case(rt: HostRuntime) {
+        let mut rows = [Group::spare(); TABLE_ROWS];
+        let mut book = TableBook::new(&mut rows);
+        assert!(rt; book.add(b"g", b"Admin|b").is_ok());
+        assert!(rt; yes_by(&Lax::AnyCase, &book, b"A", b"a"));
+        assert!(rt; no(&book, b"A", b"a"));
+        assert!(rt; yes_by(&Lax::AnyCase, &book, b"x.ADMIN", b"X.{g}"));
+        assert!(rt; no(&book, b"x.ADMIN", b"X.{g}"));
+        assert!(rt; yes_by(&Lax::AnyCase, &book, b"A+a+A", b"(a+)*a"));
+        assert!(rt; no(&book, b"A+a+A", b"(a+)*a"));
+        assert!(rt; yes_by(&Lax::AnyCase, &book, b"Ab.c", b"!"));
+        // Other words stay apart.
+        assert!(rt; no_by(&Lax::AnyCase, &book, b"AB", b"a"));
+        assert!(rt; no_by(&Lax::AnyCase, &book, b"x.C", b"X.{g}"));
+        assert!(rt; no_by(&Lax::AnyCase, &book, b"a_b", b"a-b"));
+    }
+
+    // This rule is not the same both ways round: the word of the list comes first.
+    #[test]
+    fn words_by_their_beginning(rt: HostRuntime) {
+        let mut rows = [Group::spare(); TABLE_ROWS];
+        let mut book = TableBook::new(&mut rows);
+        assert!(rt; book.add(b"g", b"log|read").is_ok());
+        assert!(rt; yes_by(&Lax::Beginning, &book, b"login", b"log"));
+        assert!(rt; no_by(&Lax::Beginning, &book, b"log", b"login"));
+        assert!(rt; yes_by(&Lax::Beginning, &book, b"x.reader", b"x.{g}"));
+        assert!(rt; no_by(&Lax::Beginning, &book, b"x.rea", b"x.{g}"));
+        assert!(rt; yes_by(&Lax::Beginning, &book, b"log@login", b"(log@)*log"));
+        assert!(rt; no(&book, b"login", b"log"));
     }
 
     // The name `gNN` of a group by the last two digits of its number.

@@ -6,8 +6,8 @@ use Rattle.lists.specs.Texts.{tree_signs}
 use Rattle.lists.specs.Placed.{Placed, signs_of}
 use Rattle.lists.proofs.Build.{Level, fresh, barred, full, put, star_alts}
 use Rattle.runs.specs.declared.relation.Runs.{Runs}
-use Rattle.derivations.specs.Derives.{AtomDerives, ItemDerives, exact, GroupOf}
-use Rattle.matching.specs.declared.held.Judge.{Judge}
+use Rattle.derivations.specs.Derives.{AtomDerives, ItemDerives, GroupOf}
+use Rattle.matching.specs.declared.judge.Judge.{Judge}
 use Rattle.matching.specs.declared.step.Step.{Step}
 use Rattle.matching.specs.declared.step.Step.TheVariants.{Runs as Each}
 use Rattle.matching.specs.declared.reading.Reading.{Reading}
@@ -17,9 +17,12 @@ use Rattle.matching.proofs.Spanning.{span_plain, span_bracket, span_list}
 use Rattle.matching.proofs.Remaining.{Left, left_all, left_atom, left_group, left_open, left_star, left_bar, left_close, left_end}
 use Rattle.matching.proofs.Levels.{Holds, holds_none, holds_put, holds_star, holds_bar, holds_list, holds_empty}
 
-module _ (judge : Judge) (ps : List Part) (tree : Tree) (tail : List Sign) (closes : Closes tail) (text : List ℕ) (starts : ℕ) where
+module _ {R : Type 0} (same : R → List ℕ → List ℕ → Type 0) (judge : Judge R) (ps : List Part) (tree : Tree) (tail : List Sign) (closes : Closes tail) (text : List ℕ) (starts : ℕ) where
+  abbrev Same : List ℕ → List ℕ → Type 0
+  Same = same judge.rule.now
+
   abbrev Ready : List ℕ → Type 0
-  Ready g = GroupReady judge ps g
+  Ready g = GroupReady same judge ps g
 
   -- the tokens from a place on are left, and the reading holds what was before them
   pub record Course (at : ℕ) (reading : Reading) : Type 0 where
@@ -29,11 +32,11 @@ module _ (judge : Judge) (ps : List Part) (tree : Tree) (tail : List Sign) (clos
     pub rest : List (ℕ × Sign)
     pub placed : Placed text at rest
     pub these : signs_of rest ≡ signs ++ tail
-    pub holds : Holds ps (GroupOf (table_of judge)) starts reading level
+    pub holds : Holds Same ps (GroupOf (table_of judge)) starts reading level
 
   -- nothing has been read
-  pub course_start : (at : ℕ) (reading : Reading) → TreeReady judge ps tree → (qs : List (ℕ × Sign)) → Placed text at qs → signs_of qs ≡ tree_signs tree ++ tail → Begins starts reading → Course at reading
-  course_start at reading ready qs placed these b = record { level = fresh; signs = tree_signs tree; left = left_all Ready tree ready; rest = qs; placed = placed; these = these; holds = holds_none ps (GroupOf (table_of judge)) starts reading b }
+  pub course_start : (at : ℕ) (reading : Reading) → TreeReady same judge ps tree → (qs : List (ℕ × Sign)) → Placed text at qs → signs_of qs ≡ tree_signs tree ++ tail → Begins starts reading → Course at reading
+  course_start at reading ready qs placed these b = record { level = fresh; signs = tree_signs tree; left = left_all Ready tree ready; rest = qs; placed = placed; these = these; holds = holds_none Same ps (GroupOf (table_of judge)) starts reading b }
 
   -- a sign that comes next
   record Next (u : Level) (s : Sign) (rest : List (ℕ × Sign)) : Type 0 where
@@ -54,41 +57,41 @@ module _ (judge : Judge) (ps : List Part) (tree : Tree) (tail : List Sign) (clos
     next s apart e = next_of course.level course.signs s rest apart course.left (sym (ap signs_of e) ∙ course.these)
 
     module _ (at' : ℕ) (placed : Placed text at' rest) (reading' : Reading) where
-      goes_on : (u : Level) (signs : List Sign) → Left Ready tree u signs → signs_of rest ≡ signs ++ tail → Holds ps (GroupOf (table_of judge)) starts reading' u → Course at' reading'
+      goes_on : (u : Level) (signs : List Sign) → Left Ready tree u signs → signs_of rest ≡ signs ++ tail → Holds Same ps (GroupOf (table_of judge)) starts reading' u → Course at' reading'
       goes_on u signs left these holds = record { level = u; signs = signs; left = left; rest = rest; placed = placed; these = these; holds = holds }
 
       -- an atom
-      pub course_atom : (a : Atom) (step : Step) → course.rest ≡ (place, atom a) ∷ rest → StepMeans ps (AtomDerives exact a) step → Pushed reading step reading' → Course at' reading'
+      pub course_atom : (a : Atom) (step : Step) → course.rest ≡ (place, atom a) ∷ rest → StepMeans ps (AtomDerives Same a) step → Pushed reading step reading' → Course at' reading'
       course_atom a step e means p =
           let n = next (atom a) (λ f. cc) e in
-          goes_on (put course.level (plain a)) n.signs (left_atom n.left) n.these (holds_put ps (GroupOf (table_of judge)) starts reading reading' step p course.level (plain a) course.holds (record { counted = means.counted; ends = λ i j. (λ s. span_plain.1 ((means.ends i j).0 s), λ s. (means.ends i j).1 (span_plain.0 s)) }))
+          goes_on (put course.level (plain a)) n.signs (left_atom n.left) n.these (holds_put Same ps (GroupOf (table_of judge)) starts reading reading' step p course.level (plain a) course.holds (record { counted = means.counted; ends = λ i j. (λ s. span_plain.1 ((means.ends i j).0 s), λ s. (means.ends i j).1 (span_plain.0 s)) }))
 
       -- a reference to a group
-      pub course_group : (g : List ℕ) (step : Step) → course.rest ≡ (place, group g) ∷ rest → (Ready g → StepMeans ps (ItemDerives exact (GroupOf (table_of judge)) (named g)) step) → Pushed reading step reading' → Course at' reading'
+      pub course_group : (g : List ℕ) (step : Step) → course.rest ≡ (place, group g) ∷ rest → (Ready g → StepMeans ps (ItemDerives Same (GroupOf (table_of judge)) (named g)) step) → Pushed reading step reading' → Course at' reading'
       course_group g step e means p =
           let n = next (group g) (λ f. cc) e in
           let (ready, left) = left_group n.left in
-          goes_on (put course.level (named g)) n.signs left n.these (holds_put ps (GroupOf (table_of judge)) starts reading reading' step p course.level (named g) course.holds (means ready))
+          goes_on (put course.level (named g)) n.signs left n.these (holds_put Same ps (GroupOf (table_of judge)) starts reading reading' step p course.level (named g) course.holds (means ready))
 
       -- a star
       pub course_star : course.rest ≡ (place, star) ∷ rest → Repeated reading (length ps + 1) reading' → Course at' reading'
       course_star e r =
           let n = next star (λ f. cc) e in
           let (a, (is, left)) = left_star n.left in
-          goes_on (full (star_alts a)) n.signs left n.these (holds_star ps (GroupOf (table_of judge)) starts reading reading' r a (subst (Holds ps (GroupOf (table_of judge)) starts reading) is course.holds))
+          goes_on (full (star_alts a)) n.signs left n.these (holds_star Same ps (GroupOf (table_of judge)) starts reading reading' r a (subst (Holds Same ps (GroupOf (table_of judge)) starts reading) is course.holds))
 
       -- a bar
       pub course_bar : course.rest ≡ (place, bar) ∷ rest → Barred reading reading' → Course at' reading'
       course_bar e b =
           let n = next bar (λ f. cc) e in
           let (a, (is, left)) = left_bar n.left in
-          goes_on (barred a) n.signs left n.these (holds_bar ps (GroupOf (table_of judge)) starts reading reading' a b (subst (Holds ps (GroupOf (table_of judge)) starts reading) is course.holds))
+          goes_on (barred a) n.signs left n.these (holds_bar Same ps (GroupOf (table_of judge)) starts reading reading' a b (subst (Holds Same ps (GroupOf (table_of judge)) starts reading) is course.holds))
 
     -- a bracket: what is judged within it
     pub record Inside : Type 0 where
       pub alts : Alts
       pub beyond : List Sign
-      pub ready : TreeReady judge ps (list alts)
+      pub ready : TreeReady same judge ps (list alts)
       pub these : signs_of rest ≡ alts_signs alts ++ (close_bracket ∷ (beyond ++ tail))
       pub left : Left Ready tree (put course.level (bracket alts)) beyond
 
@@ -99,7 +102,7 @@ module _ (judge : Judge) (ps : List Part) (tree : Tree) (tail : List Sign) (clos
         record { alts = b.inside; beyond = b.beyond; ready = b.ready; these = n.these ∙ ap (λ ss. ss ++ tail) b.signs ∙ append_assoc (alts_signs b.inside) (close_bracket ∷ b.beyond) tail; left = b.left }
 
     -- a bracket that has been judged
-    pub course_bracket : (i : Inside) (at' : ℕ) (runs : Runs) (reading' : Reading) → Judged judge ps (list i.alts) (length ps + 1) runs (close_bracket ∷ (i.beyond ++ tail)) text at' → Pushed reading (Each runs) reading' → Course at' reading'
+    pub course_bracket : (i : Inside) (at' : ℕ) (runs : Runs) (reading' : Reading) → Judged same judge ps (list i.alts) (length ps + 1) runs (close_bracket ∷ (i.beyond ++ tail)) text at' → Pushed reading (Each runs) reading' → Course at' reading'
     course_bracket i at' runs reading' j p = record {
       level = put course.level (bracket i.alts);
       signs = i.beyond;
@@ -107,7 +110,7 @@ module _ (judge : Judge) (ps : List Part) (tree : Tree) (tail : List Sign) (clos
       rest = j.rest;
       placed = j.placed;
       these = j.signs;
-      holds = holds_put ps (GroupOf (table_of judge)) starts reading reading' (Each runs) p course.level (bracket i.alts) course.holds (record {
+      holds = holds_put Same ps (GroupOf (table_of judge)) starts reading reading' (Each runs) p course.level (bracket i.alts) course.holds (record {
         counted = j.means.counted;
         ends = λ k m. (
           λ e. span_bracket.1 (span_list.0 ((j.means.ends k m).0 e).1),
@@ -117,26 +120,26 @@ module _ (judge : Judge) (ps : List Part) (tree : Tree) (tail : List Sign) (clos
     }
 
   -- all signs have been read
-  means_end : (reading : Reading) (runs : Runs) (u : Level) → Left Ready tree u [] → Holds ps (GroupOf (table_of judge)) starts reading u → Finished reading runs → Means ps (Derived (table_of judge) tree) starts runs
+  means_end : (reading : Reading) (runs : Runs) (u : Level) → Left Ready tree u [] → Holds Same ps (GroupOf (table_of judge)) starts reading u → Finished reading runs → Means ps (Derived same judge tree) starts runs
   means_end reading runs u left h f =
       ⊎_elim
-      (λ x. let (a, (is, at)) = x in subst (λ t. Means ps (Derived (table_of judge) t) starts runs) (sym is) (holds_list ps (GroupOf (table_of judge)) starts reading runs f a (subst (Holds ps (GroupOf (table_of judge)) starts reading) at h)))
-      (λ x. subst (λ t. Means ps (Derived (table_of judge) t) starts runs) (sym x.0) (holds_empty ps (GroupOf (table_of judge)) starts reading runs f (subst (Holds ps (GroupOf (table_of judge)) starts reading) x.1 h)))
+      (λ x. let (a, (is, at)) = x in subst (λ t. Means ps (Derived same judge t) starts runs) (sym is) (holds_list Same ps (GroupOf (table_of judge)) starts reading runs f a (subst (Holds Same ps (GroupOf (table_of judge)) starts reading) at h)))
+      (λ x. subst (λ t. Means ps (Derived same judge t) starts runs) (sym x.0) (holds_empty Same ps (GroupOf (table_of judge)) starts reading runs f (subst (Holds Same ps (GroupOf (table_of judge)) starts reading) x.1 h)))
       (left_end left)
 
   module _ (at : ℕ) (reading : Reading) (course : Course at reading) (runs : Runs) (f : Finished reading runs) where
     -- the bracket that closes the list
-    pub course_close : (place : ℕ) (rest : List (ℕ × Sign)) (at' : ℕ) → course.rest ≡ (place, close_bracket) ∷ rest → Placed text at' rest → Judged judge ps tree starts runs tail text at'
+    pub course_close : (place : ℕ) (rest : List (ℕ × Sign)) (at' : ℕ) → course.rest ≡ (place, close_bracket) ∷ rest → Placed text at' rest → Judged same judge ps tree starts runs tail text at'
     course_close place rest at' e placed = closing course.signs course.left (sym (ap signs_of e) ∙ course.these)
       where
-        closing : (signs : List Sign) → Left Ready tree course.level signs → close_bracket ∷ signs_of rest ≡ signs ++ tail → Judged judge ps tree starts runs tail text at'
+        closing : (signs : List Sign) → Left Ready tree course.level signs → close_bracket ∷ signs_of rest ≡ signs ++ tail → Judged same judge ps tree starts runs tail text at'
         closing [] left g = record { means = means_end reading runs course.level left course.holds f; rest = rest; placed = placed; signs = ap (drop 1) g }
         closing (x ∷ r) left g = let same : x ≡ close_bracket = cc in absurd (left_close (subst (λ y. Left Ready tree course.level (y ∷ r)) same left))
 
     -- no token is left
-    pub course_end : (at' : ℕ) → course.rest ≡ [] → Placed text at' [] → Judged judge ps tree starts runs tail text at'
+    pub course_end : (at' : ℕ) → course.rest ≡ [] → Placed text at' [] → Judged same judge ps tree starts runs tail text at'
     course_end at' e placed = ending course.signs course.left (sym (ap signs_of e) ∙ course.these)
       where
-        ending : (signs : List Sign) → Left Ready tree course.level signs → [] ≡ signs ++ tail → Judged judge ps tree starts runs tail text at'
+        ending : (signs : List Sign) → Left Ready tree course.level signs → [] ≡ signs ++ tail → Judged same judge ps tree starts runs tail text at'
         ending [] left g = record { means = means_end reading runs course.level left course.holds f; rest = []; placed = placed; signs = ap (drop 1) g }
         ending (x ∷ r) left g = cc

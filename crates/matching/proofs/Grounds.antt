@@ -18,10 +18,10 @@ use Rattle.openings.specs.References.{Reference, Refers}
 use Rattle.openings.specs.Opening.{Name, Numbered, Known, Distinct, ReadTo, the_list}
 use Rattle.openings.specs.Circles.{Names, Leads, here, on, LeadsOn}
 use Rattle.openings.specs.Opened.{names_of, texts_of}
-use Rattle.openings.specs.Meeting.{Named}
-use Rattle.openings.specs.Tabled.{pairs}
-use Rattle.openings.specs.Gathering.{texts_in}
-use Rattle.openings.specs.Holding.{known}
+use Rattle.openings.specs.MetReferences.{Named}
+use Rattle.openings.specs.Pairs.{pairs}
+use Rattle.openings.specs.Views.{texts_in}
+use Rattle.openings.specs.KnownNames.{known}
 use Rattle.openings.specs.Whole.{Whole, Tells}
 use Rattle.openings.specs.Answers.{list_of, groups_of}
 use Rattle.openings.proofs.Knowing.{known_more, known_cases}

@@ -9,7 +9,7 @@ use Rattle.runs.specs.Relations.{Identity, Composed}
 use Rattle.runs.specs.Runs.{Ends}
 use Rattle.runs.proofs.Reaching.{reach_map}
 use Rattle.name_parts.specs.Slices.{Spans}
-use Rattle.derivations.specs.Derives.{ItemDerives, SeqDerives, AltsDerives, TreeDerives, exact}
+use Rattle.derivations.specs.Derives.{ItemDerives, SeqDerives, AltsDerives, TreeDerives}
 use Rattle.matching.specs.declared.step.Step.{Step}
 use Rattle.matching.specs.declared.reading.Reading.{Reading}
 use Rattle.matching.specs.Steps.{StepEnds, Repeats}
@@ -22,18 +22,18 @@ abbrev pub final : Seq → Item
 final (one x) = x
 final (then s x) = x
 
-module _ (ps : List Part) (Group : List ℕ → Tree → Type 0) where
+module _ (Same : List ℕ → List ℕ → Type 0) (ps : List Part) (Group : List ℕ → Tree → Type 0) where
   -- what the items before the last one derive
   abbrev pub Before : Seq → ℕ → ℕ → Type 0
   Before (one x) i j = j ≡ i
-  Before (then s x) i j = Spans ps (SeqDerives exact Group s) i j
+  Before (then s x) i j = Spans ps (SeqDerives Same Group s) i j
 
   -- what the alternatives that are done derive
   abbrev pub Past : Level → ℕ → ℕ → Type 0
   Past fresh i j = ⊥
-  Past (barred l) i j = Spans ps (AltsDerives exact Group l) i j
+  Past (barred l) i j = Spans ps (AltsDerives Same Group l) i j
   Past (full (only s)) i j = ⊥
-  Past (full (or l s)) i j = Spans ps (AltsDerives exact Group l) i j
+  Past (full (or l s)) i j = Spans ps (AltsDerives Same Group l) i j
 
   -- what the sequence being read derives, but for its last item
   abbrev pub Going : Level → ℕ → ℕ → Type 0
@@ -44,7 +44,7 @@ module _ (ps : List Part) (Group : List ℕ → Tree → Type 0) where
 
   -- the last item is held as a step
   abbrev pub Final : Seq → Option Step → Type 0
-  Final s o = (step : Step) × ((o ≡ Some step) × StepMeans ps (ItemDerives exact Group (final s)) step)
+  Final s o = (step : Step) × ((o ≡ Some step) × StepMeans ps (ItemDerives Same Group (final s)) step)
 
   abbrev pub Last : Level → Option Step → Type 0
   Last fresh o = o ≡ None
@@ -60,12 +60,12 @@ module _ (ps : List Part) (Group : List ℕ → Tree → Type 0) where
     pub last : Last u reading.last
 
   -- the sequence with its last item
-  with_final : (n : ℕ) (runs : Runs) (s : Seq) (step : Step) → ((i j : ℕ) → Ends runs i j ↔ ((i < n) × Before s i j)) → StepMeans ps (ItemDerives exact Group (final s)) step → (i j : ℕ) → Composed (Ends runs) (StepEnds step) i j ↔ ((i < n) × Spans ps (SeqDerives exact Group s) i j)
+  with_final : (n : ℕ) (runs : Runs) (s : Seq) (step : Step) → ((i j : ℕ) → Ends runs i j ↔ ((i < n) × Before s i j)) → StepMeans ps (ItemDerives Same Group (final s)) step → (i j : ℕ) → Composed (Ends runs) (StepEnds step) i j ↔ ((i < n) × Spans ps (SeqDerives Same Group s) i j)
   with_final n runs (one x) step seq means i j = (
     λ c.
         let (m, a, b) = c in
         let (lt, e) = (seq i m).0 a in
-        (lt, span_one.1 (subst (λ k. Spans ps (ItemDerives exact Group x) k j) e ((means.ends m j).0 b))),
+        (lt, span_one.1 (subst (λ k. Spans ps (ItemDerives Same Group x) k j) e ((means.ends m j).0 b))),
     λ h. (i, (seq i i).1 (h.0, refl), (means.ends i j).1 (span_one.0 h.1)),
   )
   with_final n runs (then s x) step seq means i j = (
@@ -87,7 +87,7 @@ module _ (ps : List Part) (Group : List ℕ → Tree → Type 0) where
 
   -- one item more
   module _ (n : ℕ) (before after : Reading) (step : Step) (p : Pushed before step after) where
-    put_final : (s : Seq) → ((i j : ℕ) → Ends before.seq i j ↔ ((i < n) × Before s i j)) → Final s before.last → (i j : ℕ) → Ends after.seq i j ↔ ((i < n) × Spans ps (SeqDerives exact Group s) i j)
+    put_final : (s : Seq) → ((i j : ℕ) → Ends before.seq i j ↔ ((i < n) × Before s i j)) → Final s before.last → (i j : ℕ) → Ends after.seq i j ↔ ((i < n) × Spans ps (SeqDerives Same Group s) i j)
     put_final s seq (last, (e, means)) i j = Iff.trans (subst (λ o. Ends after.seq i j ↔ Joined before.seq o i j) e (p.seq i j)) (with_final n before.seq s last seq means i j)
 
     put_first : before.last ≡ None → ((i j : ℕ) → Ends before.seq i j ↔ ((i < n) × (j ≡ i))) → (i j : ℕ) → Ends after.seq i j ↔ ((i < n) × (j ≡ i))
@@ -102,14 +102,14 @@ module _ (ps : List Part) (Group : List ℕ → Tree → Type 0) where
       last = last;
     }
 
-    pub holds_put : (u : Level) (x : Item) → Holds n before u → StepMeans ps (ItemDerives exact Group x) step → Holds n after (put u x)
+    pub holds_put : (u : Level) (x : Item) → Holds n before u → StepMeans ps (ItemDerives Same Group x) step → Holds n after (put u x)
     holds_put fresh x h means = put_holds fresh (put fresh x) h (λ i j. refl) (put_first h.last h.going) (step, (p.last, means))
     holds_put (barred l) x h means = put_holds (barred l) (put (barred l) x) h (λ i j. refl) (put_first h.last h.going) (step, (p.last, means))
     holds_put (full (only s)) x h means = put_holds (full (only s)) (put (full (only s)) x) h (λ i j. refl) (put_final s h.going h.last) (step, (p.last, means))
     holds_put (full (or l s)) x h means = put_holds (full (or l s)) (put (full (or l s)) x) h (λ i j. refl) (put_final s h.going h.last) (step, (p.last, means))
 
   -- an item any number of times
-  star_means : (x : Item) (step repeated : Step) → StepMeans ps (ItemDerives exact Group x) step → Repeats step repeated (length ps + 1) → StepMeans ps (ItemDerives exact Group (starred x)) repeated
+  star_means : (x : Item) (step repeated : Step) → StepMeans ps (ItemDerives Same Group x) step → Repeats step repeated (length ps + 1) → StepMeans ps (ItemDerives Same Group (starred x)) repeated
   star_means x step repeated means r = record {
     counted = r.counted;
     ends = λ i j. (
@@ -144,10 +144,10 @@ module _ (ps : List Part) (Group : List ℕ → Tree → Type 0) where
 
   -- the alternatives with the one that ends
   module _ (n : ℕ) (reading : Reading) (runs : Runs) (f : Finished reading runs) where
-    ended_final : (s : Seq) → ((i j : ℕ) → Ends reading.seq i j ↔ ((i < n) × Before s i j)) → Final s reading.last → (i j : ℕ) → Ended reading.seq reading.last i j ↔ ((i < n) × Spans ps (SeqDerives exact Group s) i j)
-    ended_final s seq (step, (e, means)) i j = subst (λ o. Ended reading.seq o i j ↔ ((i < n) × Spans ps (SeqDerives exact Group s) i j)) (sym e) (with_final n reading.seq s step seq means i j)
+    ended_final : (s : Seq) → ((i j : ℕ) → Ends reading.seq i j ↔ ((i < n) × Before s i j)) → Final s reading.last → (i j : ℕ) → Ended reading.seq reading.last i j ↔ ((i < n) × Spans ps (SeqDerives Same Group s) i j)
+    ended_final s seq (step, (e, means)) i j = subst (λ o. Ended reading.seq o i j ↔ ((i < n) × Spans ps (SeqDerives Same Group s) i j)) (sym e) (with_final n reading.seq s step seq means i j)
 
-    ended_full : (a : Alts) → Holds n reading (full a) → (i j : ℕ) → Ends runs i j ↔ ((i < n) × Spans ps (AltsDerives exact Group a) i j)
+    ended_full : (a : Alts) → Holds n reading (full a) → (i j : ℕ) → Ends runs i j ↔ ((i < n) × Spans ps (AltsDerives Same Group a) i j)
     ended_full (only s) h i j =
         let last = ended_final s h.going h.last i j in (
           λ e. ⊎_elim (λ d. absurd ((h.past i j).0 d).1) (λ t. let (lt, sp) = last.0 t.1 in (lt, span_only.1 sp)) ((f.ends i j).0 e),
@@ -164,13 +164,13 @@ module _ (ps : List Part) (Group : List ℕ → Tree → Type 0) where
     ended_fresh h i j e = ⊎_elim (λ d. ((h.past i j).0 d).1) (λ t. subst (λ o. Ended reading.seq o i j → ⊥) (sym h.last) (λ x. x) t.1) ((f.ends i j).0 e)
 
     -- all has been read
-    pub holds_list : (a : Alts) → Holds n reading (full a) → Means ps (TreeDerives exact Group (list a)) n runs
+    pub holds_list : (a : Alts) → Holds n reading (full a) → Means ps (TreeDerives Same Group (list a)) n runs
     holds_list a h = record {
       counted = f.counted ∙ h.first;
       ends = λ i j. let ends = ended_full a h i j in (λ e. let (lt, sp) = ends.0 e in (lt, span_list.1 sp), λ t. ends.1 (t.0, span_list.0 t.1));
     }
 
-    pub holds_empty : Holds n reading fresh → Means ps (TreeDerives exact Group empty) n runs
+    pub holds_empty : Holds n reading fresh → Means ps (TreeDerives Same Group empty) n runs
     holds_empty h = record { counted = f.counted ∙ h.first; ends = λ i j. (λ e. absurd (ended_fresh h i j e), λ t. absurd (span_empty t.1)) }
 
   -- a bar after a sequence

@@ -12,5 +12,6 @@ pub mod Ranks
 pub mod Views
 pub mod Readiness
 pub mod Ahead
+pub mod Judgements
 pub mod Verdicts
 pub mod Likening

@@ -10,7 +10,7 @@ use Rattle.openings.specs.Opening.{Name, Known}
 use Rattle.openings.specs.Opened.{names_of, texts_of}
 use Rattle.openings.specs.Answers.{list_of, groups_of}
 use Rattle.openings.proofs.TableTexts.{length_names}
-use Rattle.derivations.specs.Derives.{exact, GroupOf, ListDerives}
+use Rattle.derivations.specs.Derives.{GroupOf, ListDerives}
 use Rattle.derivations.specs.References.{tree_groups}
 use Rattle.derivations.proofs.Reached.{list_reached}
 use Rattle.derivations.proofs.Readings.{one_tree}
@@ -18,7 +18,7 @@ use Rattle.matching.specs.Alike.{SameTreeAndGroups}
 use Rattle.matching.proofs.Grounds.{Grounds, grounds, text_held}
 use Rattle.matching.proofs.Mentions.{every_group}
 
-module _ (o : Opened) (table : Table) (text : List ℕ) (same : SameTreeAndGroups o table text) (name : List ℕ) where
+module _ (Same : List ℕ → List ℕ → Type 0) (o : Opened) (table : Table) (text : List ℕ) (same : SameTreeAndGroups o table text) (name : List ℕ) where
   abbrev reached : Table
   reached = groups_of o
 
@@ -49,8 +49,8 @@ module _ (o : Opened) (table : Table) (text : List ℕ) (same : SameTreeAndGroup
   named : (t : Tree) → Reads (list_of o) t → AllByRecursion Reached (tree_groups t)
   named t reads = every_group Reached t reads ground.list_names
 
-  pub alike : ListDerives exact reached (list_of o) name ↔ ListDerives exact table text name
+  pub alike : ListDerives Same reached (list_of o) name ↔ ListDerives Same table text name
   alike = (
-    λ d. one_tree exact table (list_of o) text name same.tree same.list_reads same.text_reads (list_reached exact reached table Reached closed agree (list_of o) name named d),
-    λ d. list_reached exact table reached Reached (λ g t k s. closed g t k (s.0, (agree g k ∙ s.1.0, s.1.1))) (λ g k. sym (agree g k)) (list_of o) name named (one_tree exact table text (list_of o) name same.tree same.text_reads same.list_reads d),
+    λ d. one_tree Same table (list_of o) text name same.tree same.list_reads same.text_reads (list_reached Same reached table Reached closed agree (list_of o) name named d),
+    λ d. list_reached Same table reached Reached (λ g t k s. closed g t k (s.0, (agree g k ∙ s.1.0, s.1.1))) (λ g k. sym (agree g k)) (list_of o) name named (one_tree Same table text (list_of o) name same.tree same.text_reads same.list_reads d),
   )

@@ -7,7 +7,7 @@ use Rattle.lists.specs.Placed.{signs_of}
 use Rattle.lists.proofs.Placing.{spells_placed}
 use Rattle.openings.specs.References.{Reference, references_of, Refers}
 use Rattle.openings.specs.Opening.{Name}
-use Rattle.openings.specs.Meeting.{Named}
+use Rattle.openings.specs.MetReferences.{Named}
 use Rattle.derivations.specs.References.{item_groups, seq_groups, alts_groups, tree_groups}
 
 -- a sign in front of names: a group's is one more, every other adds none

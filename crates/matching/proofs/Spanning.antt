@@ -6,6 +6,7 @@ use Rattle.lists.specs.Trees
 use Rattle.lists.specs.Trees.{Atom, any, Item, plain, bracket, starred, named, Seq, one, then, Alts, only, or, Tree, empty, list}
 use Rattle.runs.specs.Relations.{Composed, Reach, done, further}
 use Rattle.std.specs.List.{slice_range}
+use Rattle.name_parts.specs.Tables.{SameWordAt}
 use Rattle.name_parts.specs.Slices.{Spans, PartAt}
 use Rattle.derivations.specs.Derives.{AtomDerives, a_word, a_dot, an_at, a_plus, a_partial}
 use Rattle.derivations.specs.Derives.{ItemDerives, by_atom, by_bracket, no_runs, more_runs, by_group, SeqDerives, by_item, by_items}
@@ -19,7 +20,7 @@ span_whole {ps} {D} = (λ h. subst D (slice_all ps) h.run, λ d. record { forwar
 
 module _ {Same : List ℕ → List ℕ → Type 0} {ps : List Part} {i j : ℕ} where
   -- a word derives one part that is the same word
-  pub span_atom_word : {w : List ℕ} → Spans ps (AtomDerives Same (Trees.word w)) i j ↔ ((j ≡ i + 1) × ((v : List ℕ) × PartAt ps (word v) i × Same w v))
+  pub span_atom_word : {w : List ℕ} → Spans ps (AtomDerives Same (Trees.word w)) i j ↔ ((j ≡ i + 1) × SameWordAt Same ps w i)
   span_atom_word {w} = (
     λ h.
         let (v, is, same) = lone (slice_range ps i j) h.run in

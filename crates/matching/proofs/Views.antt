@@ -6,7 +6,7 @@ use Rattle.lists.specs.declared.list.AccessList.{AccessList}
 use Rattle.books.specs.Tables.{Table}
 use Rattle.openings.specs.declared.opened.Opened.{Opened}
 use Rattle.openings.specs.Opened.{texts_of}
-use Rattle.openings.specs.Gathering.{text_in, texts_in}
+use Rattle.openings.specs.Views.{text_in, texts_in}
 use Rattle.openings.specs.Answers.{groups_of}
 use Rattle.openings.proofs.Holding.{known_count}
 use Rattle.openings.proofs.TableTexts.{length_names}

@@ -12,8 +12,8 @@ use Rattle.lists.specs.Trees.{Atom, Sign, atom, named, close_bracket, Tree, list
 use Rattle.lists.specs.Texts.{tree_signs}
 use Rattle.lists.specs.Placed.{Placed, none, signs_of, Walks}
 use Rattle.runs.specs.declared.relation.Runs.{Runs}
-use Rattle.derivations.specs.Derives.{AtomDerives, ItemDerives, exact, GroupOf}
-use Rattle.matching.specs.declared.held.Judge.{Judge}
+use Rattle.derivations.specs.Derives.{AtomDerives, ItemDerives, GroupOf}
+use Rattle.matching.specs.declared.judge.Judge.{Judge}
 use Rattle.matching.specs.declared.step.Step.{Step}
 use Rattle.matching.specs.declared.step.Step.TheVariants.{Runs as Each}
 use Rattle.matching.specs.declared.reading.Reading.{Reading}
@@ -46,64 +46,64 @@ placed_end {text} {at' = at'} w =
       past = subst (λ n. Past is_blank (drop n text)) (sym here) w.found.past;
     }))
 
-module _ (judge : Judge) (text : List ℕ) (start starts : ℕ) where
+module _ {R : Type 0} (same : R → List ℕ → List ℕ → Type 0) (judge : Judge R) (text : List ℕ) (start starts : ℕ) where
   -- whatever the name's parts, the table, the tree and what follows it are: the course of the judgement from the start
   abbrev pub Courses : ℕ → Reading → Type 0
   Courses at reading =
-      ForParts judge (λ ps. (tree : Tree) → TreeReady judge ps tree → (tail : List Sign) (closes : Closes tail) (qs : List (ℕ × Sign)) → Placed text start qs → signs_of qs ≡ tree_signs tree ++ tail → Course judge ps tree tail closes text starts at reading)
+      ForParts judge (λ ps. (tree : Tree) → TreeReady same judge ps tree → (tail : List Sign) (closes : Closes tail) (qs : List (ℕ × Sign)) → Placed text start qs → signs_of qs ≡ tree_signs tree ++ tail → Course same judge ps tree tail closes text starts at reading)
 
   -- nothing has been read
   pub courses_start : (reading : Reading) → Begins starts reading → Courses start reading
-  courses_start reading b ps is tree ready tail closes qs placed these = course_start judge ps tree tail closes text starts start reading ready qs placed these b
+  courses_start reading b ps is tree ready tail closes qs placed these = course_start same judge ps tree tail closes text starts start reading ready qs placed these b
 
-module _ {judge : Judge} {text : List ℕ} {start starts at : ℕ} {reading : Reading} (before : Courses judge text start starts at reading) where
+module _ {R : Type 0} {same : R → List ℕ → List ℕ → Type 0} {judge : Judge R} {text : List ℕ} {start starts at : ℕ} {reading : Reading} (before : Courses same judge text start starts at reading) where
   -- a token has been passed
   module _ {lexeme : Lexeme} {text' : List ℕ} {at' : ℕ} (walks : Walks text at (Some lexeme) text' at') where
     -- the tokens that were left begin with one that is known
     tokens_are : {s : Sign} {rest left : List (ℕ × Sign)} → left ≡ (lexeme.place, sign lexeme.token) ∷ rest → sign lexeme.token ≡ s → left ≡ (lexeme.place, s) ∷ rest
     tokens_are {rest = rest} e f = e ∙ ap (λ s. (lexeme.place, s) ∷ rest) f
 
-    pub courses_atom : (a : Atom) (step : Step) (reading' : Reading) → sign lexeme.token ≡ atom a → ForParts judge (λ ps. StepMeans ps (AtomDerives exact a) step) → Pushed reading step reading' → Courses judge text start starts at' reading'
+    pub courses_atom : (a : Atom) (step : Step) (reading' : Reading) → sign lexeme.token ≡ atom a → ForParts judge (λ ps. StepMeans ps (AtomDerives (same judge.rule.now) a) step) → Pushed reading step reading' → Courses same judge text start starts at' reading'
     courses_atom a step reading' f means p ps is tree ready tail closes qs placed these =
         let course = before ps is tree ready tail closes qs placed these in
         let (rest, (e, there)) = walks.token course.rest course.placed in
-        course_atom judge ps tree tail closes text starts at reading course lexeme.place rest at' there reading' a step (tokens_are e f) (means ps is) p
+        course_atom same judge ps tree tail closes text starts at reading course lexeme.place rest at' there reading' a step (tokens_are e f) (means ps is) p
 
-    pub courses_group : (g : List ℕ) (step : Step) (reading' : Reading) → sign lexeme.token ≡ Trees.group g → ((ps : List Part) → GroupReady judge ps g → StepMeans ps (ItemDerives exact (GroupOf (table_of judge)) (named g)) step) → Pushed reading step reading' → Courses judge text start starts at' reading'
+    pub courses_group : (g : List ℕ) (step : Step) (reading' : Reading) → sign lexeme.token ≡ Trees.group g → ((ps : List Part) → GroupReady same judge ps g → StepMeans ps (ItemDerives (same judge.rule.now) (GroupOf (table_of judge)) (named g)) step) → Pushed reading step reading' → Courses same judge text start starts at' reading'
     courses_group g step reading' f means p ps is tree ready tail closes qs placed these =
         let course = before ps is tree ready tail closes qs placed these in
         let (rest, (e, there)) = walks.token course.rest course.placed in
-        course_group judge ps tree tail closes text starts at reading course lexeme.place rest at' there reading' g step (tokens_are e f) (means ps) p
+        course_group same judge ps tree tail closes text starts at reading course lexeme.place rest at' there reading' g step (tokens_are e f) (means ps) p
 
-    pub courses_star : (places : ℕ) (reading' : Reading) → sign lexeme.token ≡ Trees.star → ForParts judge (λ ps. places ≡ length ps + 1) → Repeated reading places reading' → Courses judge text start starts at' reading'
+    pub courses_star : (places : ℕ) (reading' : Reading) → sign lexeme.token ≡ Trees.star → ForParts judge (λ ps. places ≡ length ps + 1) → Repeated reading places reading' → Courses same judge text start starts at' reading'
     courses_star places reading' f whole r ps is tree ready tail closes qs placed these =
         let course = before ps is tree ready tail closes qs placed these in
         let (rest, (e, there)) = walks.token course.rest course.placed in
-        course_star judge ps tree tail closes text starts at reading course lexeme.place rest at' there reading' (tokens_are e f) (subst (λ n. Repeated reading n reading') (whole ps is) r)
+        course_star same judge ps tree tail closes text starts at reading course lexeme.place rest at' there reading' (tokens_are e f) (subst (λ n. Repeated reading n reading') (whole ps is) r)
 
-    pub courses_bar : (reading' : Reading) → sign lexeme.token ≡ Trees.bar → Barred reading reading' → Courses judge text start starts at' reading'
+    pub courses_bar : (reading' : Reading) → sign lexeme.token ≡ Trees.bar → Barred reading reading' → Courses same judge text start starts at' reading'
     courses_bar reading' f b ps is tree ready tail closes qs placed these =
         let course = before ps is tree ready tail closes qs placed these in
         let (rest, (e, there)) = walks.token course.rest course.placed in
-        course_bar judge ps tree tail closes text starts at reading course lexeme.place rest at' there reading' (tokens_are e f) b
+        course_bar same judge ps tree tail closes text starts at reading course lexeme.place rest at' there reading' (tokens_are e f) b
 
-    pub courses_bracket : (places at'' : ℕ) (runs : Runs) (reading' : Reading) → sign lexeme.token ≡ Trees.open_bracket → ForParts judge (λ ps. places ≡ length ps + 1) → Judges judge text at' at'' places runs → Pushed reading (Each runs) reading' → Courses judge text start starts at'' reading'
+    pub courses_bracket : (places at'' : ℕ) (runs : Runs) (reading' : Reading) → sign lexeme.token ≡ Trees.open_bracket → ForParts judge (λ ps. places ≡ length ps + 1) → Judges same judge text at' at'' places runs → Pushed reading (Each runs) reading' → Courses same judge text start starts at'' reading'
     courses_bracket places at'' runs reading' f whole judged p ps is tree ready tail closes qs placed these =
         let course = before ps is tree ready tail closes qs placed these in
         let (rest, (e, there)) = walks.token course.rest course.placed in
-        let inside = course_inside judge ps tree tail closes text starts at reading course lexeme.place rest (tokens_are e f) in
+        let inside = course_inside same judge ps tree tail closes text starts at reading course lexeme.place rest (tokens_are e f) in
         let tail' = close_bracket ∷ (inside.beyond ++ tail) in
         let done = judged ps is (list inside.alts) inside.ready tail' refl rest there inside.these in
-        course_bracket judge ps tree tail closes text starts at reading course lexeme.place rest inside at'' runs reading' (subst (λ n. Judged judge ps (list inside.alts) n runs tail' text at'') (whole ps is) done) p
+        course_bracket same judge ps tree tail closes text starts at reading course lexeme.place rest inside at'' runs reading' (subst (λ n. Judged same judge ps (list inside.alts) n runs tail' text at'') (whole ps is) done) p
 
-    pub courses_close : (runs : Runs) → sign lexeme.token ≡ close_bracket → Finished reading runs → Judges judge text start at' starts runs
+    pub courses_close : (runs : Runs) → sign lexeme.token ≡ close_bracket → Finished reading runs → Judges same judge text start at' starts runs
     courses_close runs f finished ps is tree ready tail closes qs placed these =
         let course = before ps is tree ready tail closes qs placed these in
         let (rest, (e, there)) = walks.token course.rest course.placed in
-        course_close judge ps tree tail closes text starts at reading course runs finished lexeme.place rest at' (tokens_are e f) there
+        course_close same judge ps tree tail closes text starts at reading course runs finished lexeme.place rest at' (tokens_are e f) there
 
   -- no token was left
-  pub courses_end : {text' : List ℕ} {at' : ℕ} (runs : Runs) → Walks text at None text' at' → Finished reading runs → Judges judge text start at' starts runs
+  pub courses_end : {text' : List ℕ} {at' : ℕ} (runs : Runs) → Walks text at None text' at' → Finished reading runs → Judges same judge text start at' starts runs
   courses_end {at' = at'} runs walks finished ps is tree ready tail closes qs placed these =
       let course = before ps is tree ready tail closes qs placed these in
-      course_end judge ps tree tail closes text starts at reading course runs finished at' (walks.token course.rest course.placed) (placed_end walks)
+      course_end same judge ps tree tail closes text starts at reading course runs finished at' (walks.token course.rest course.placed) (placed_end walks)

@@ -3,3 +3,5 @@ pub mod Readings
 pub mod Judging
 pub mod Ordering
 pub mod Alike
+pub mod Verdicts
+pub mod Judgements

@@ -2,11 +2,11 @@
 #![tactic(auto)]
 
 mod derive;
-mod groups;
-mod held;
 mod judge;
+pub mod judgement;
 mod places;
 mod reading;
 mod step;
+pub mod verdict;
 
 pub use derive::derives;

@@ -36,3 +36,15 @@ module _ (Kind : ℕ → Type 0) (all : ℕ) where
               (cases_eq i first),
         );
       }
+
+      pub found_miss : (Kind first → ⊥) → Found rest places
+      found_miss other = record {
+        among = rest_among;
+        found = λ i. (
+          λ h. let w = (was.found i).0 h in (w.0, λ r. w.1 ((split.others i).0 r).0),
+          λ w. ⊎_elim
+              (λ (e : i ≡ first). absurd (other (subst Kind e w.0.1)))
+              (λ (ne : i ≢ first). (was.found i).1 (w.0, still_left i ne w.1))
+              (cases_eq i first),
+        );
+      }

@@ -76,7 +76,6 @@ module _ (text : List ℕ) (o : Outline) (mere : ∥ OutlineOf text o ∥₁) wh
       pub held_within : end ≤ length text
       held_within = let (ps, name) = lawful_name text lawful in omega (arith, ends ps name, start_within ps text name (i + 1))
 
-  -- at a place of a word, the part that has the bytes of this word is this word
-  module _ (ps : List Part) (name : IsName text ps) (i : ℕ) (bytes w : List ℕ) (here : BytesAt text i bytes) where
-    pub word_found : Has o.words.digits i → bytes ≡ w → PartAt ps (word w) i
-    word_found has e = let (v, at-it) = (held_words ps name i).0 has in subst (λ u. PartAt ps (word u) i) (sym (here ps name (word v) at-it) ∙ e) at-it
+  -- at a place of a word, the bytes of the part are the word
+  pub word_here : (ps : List Part) → IsName text ps → (i : ℕ) (bytes : List ℕ) → BytesAt text i bytes → Has o.words.digits i → PartAt ps (word bytes) i
+  word_here ps name i bytes here has = let (v, at-it) = (held_words ps name i).0 has in subst (λ u. PartAt ps (word u) i) (sym (here ps name (word v) at-it)) at-it

@@ -49,6 +49,10 @@ module _ (ps : List Part) where
   pub part_one : (p q : Part) (i : ℕ) → PartAt ps p i → PartAt ps q i → p ≡ q
   part_one p q i a b = sym a.is ∙ get_or_default ps i p q a.inside ∙ b.is
 
+  -- words that are at one place are one word
+  pub word_one : (v w : List ℕ) (i : ℕ) → PartAt ps (word v) i → PartAt ps (word w) i → v ≡ w
+  word_one v w i a b = let one : word v ≡ word w = part_one (word v) (word w) i a b in cc
+
   pub part_apart : (p q : Part) (i : ℕ) → PartAt ps p i → (kind p ≡ kind q → ⊥) → PartAt ps q i → ⊥
   part_apart p q i a other b = other (ap kind (part_one p q i a b))
 

@@ -10,9 +10,13 @@ use Rattle.name_parts.specs.Slices.{Spans, PartAt}
 abbrev pub PlacesOf : List ℕ → Part → ℕ → Type 0
 PlacesOf text p digits = (ps : List Part) → IsName text ps → (i : ℕ) → Has digits i ↔ PartAt ps p i
 
--- the set of those of some places that have a word
-abbrev pub WordPlaces : List ℕ → List ℕ → ℕ → ℕ → Type 0
-WordPlaces text w among digits = (ps : List Part) → IsName text ps → (i : ℕ) → Has digits i ↔ (Has among i × PartAt ps (word w) i)
+-- a place that has a word which is the same as this one
+abbrev pub SameWordAt : (List ℕ → List ℕ → Type 0) → List Part → List ℕ → ℕ → Type 0
+SameWordAt Same ps w i = (v : List ℕ) × PartAt ps (word v) i × Same w v
+
+-- the set of those of some places that have a word which is the same as this one
+abbrev pub WordPlaces : (List ℕ → List ℕ → Type 0) → List ℕ → List ℕ → ℕ → ℕ → Type 0
+WordPlaces Same text w among digits = (ps : List Part) → IsName text ps → (i : ℕ) → Has digits i ↔ (Has among i × SameWordAt Same ps w i)
 
 -- the runs of a row from place to place that are partial names
 pub record PartialRuns (ps : List Part) (r : Runs) : Type 0 where
