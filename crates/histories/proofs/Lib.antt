@@ -1,0 +1,4 @@
+pub mod Numbers
+pub mod Members
+pub mod Above
+pub mod Deciding

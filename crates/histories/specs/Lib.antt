@@ -1,0 +1,5 @@
+pub mod Histories
+pub mod Processes
+pub mod Places
+pub mod InForce
+pub mod Laws
