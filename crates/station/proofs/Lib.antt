@@ -1,0 +1,14 @@
+pub mod Writes
+pub mod Supposing
+pub mod Forms
+pub mod Records
+pub mod Held
+pub mod Options
+pub mod OneHistory
+pub mod Spares
+pub mod Entries
+pub mod Forces
+pub mod Determined
+pub mod MadeNames
+pub mod NumbersEntered
+pub mod RowsCounted
