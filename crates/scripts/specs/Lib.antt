@@ -1,1 +1,3 @@
+pub mod Understood
+pub mod Numbers
 pub mod Lines
