@@ -17,6 +17,7 @@ pub mod Leading
 pub mod Tabling
 pub mod Telling
 pub mod Concluding
+pub mod Ending
 pub mod Viewing
 pub mod Deciding
 pub mod Meanings

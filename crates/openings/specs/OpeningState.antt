@@ -7,7 +7,10 @@ use Rattle.openings.specs.Opening.{Name, Meaning, Numbered, MeetsAll}
 use Rattle.openings.specs.Views.{text_in, texts_in}
 use Rattle.openings.specs.KnownNames.{known}
 use Rattle.openings.specs.Pairs.{pairs}
-use Rattle.openings.specs.Progress.{Fits}
+use Rattle.links.specs.declared.links.Links.{Links}
+use Rattle.openings.specs.Circles.{OnCircle}
+use Rattle.openings.specs.BackReferences.{Closes}
+use Rattle.openings.specs.Progress.{Fits, Progress}
 use Rattle.openings.specs.Membership.{having}
 
 -- the list that is opened
@@ -53,3 +56,10 @@ pub record Gave (old : Opening) (name text : List ℕ) (has : Name → Bool) (ne
   pub of_list : listed new ≡ listed old
   pub one_given : given new ≡ given old ++ (record { name = name; text = text } ∷ [])
   pub named : (rs : List Reference) → Refers text rs → MeetsAll (having has) (met old) rs (met new)
+
+-- every group that was met has been given its text, none lies on a circle, and these links lead as the texts do
+pub record Ends (o : Opening) (leads : Links) : Type 0 where
+  pub none_due : length (met o) ≤ length (given o)
+  pub count : leads.len ≡ o.links.len
+  pub closes : Closes o.links leads
+  pub no_circle : (M : Meaning) → Progress M (listed o) (length (met o)) (met o) (texts_in o.texts) o.links → (i place : ℕ) → OnCircle M (met o) i place → ⊥

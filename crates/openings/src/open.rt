@@ -49,5 +49,12 @@ pub fn open<B: Book>(list: &AccessList, book: &B) -> Result<Opened, Fault>
     let names = KnownGroups::named_by(list, &InBook::of(book))?;
     let mut opening = Opening::of(list, &names);
     read_groups(&mut opening, book)?;
-    opening.finish()
+    // What `finish` makes, made here in place: an answer that holds an opened list is copied at each step on its way.
+    let leads = opening.leads()?;
+    Ok(Opened {
+        list: opening.list,
+        names: opening.names,
+        texts: opening.texts,
+        leads,
+    })
 }

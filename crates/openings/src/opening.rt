@@ -1,5 +1,5 @@
 //! Opening a list step by step.
-ghost use Rattle.std.specs.Prelude.{◌≡◌, ℕ, ◌+◌, ◌≤◌, List, [], length, Some, None, Ok, Decides, MatchOption, MatchResult};
+ghost use Rattle.std.specs.Prelude.{◌≡◌, ℕ, ◌+◌, ◌≤◌, List, [], length, Some, None, Ok, Decides, MatchOption, MatchResult, IfOk, IfErr};
 ghost use Rattle.faults.specs.declared.kind.Kind.TheVariants.{TextTooLong};
 ghost use Rattle.openings.specs.References.{Reference, Refers};
 ghost use Rattle.lists.specs.Texts.{LawfulList};
@@ -40,7 +40,7 @@ pub struct Opening {
 }
 
 impl Opening {
-    ghost use Rattle.openings.specs.OpeningState.{listed, met, given, Through, Due, Stands, Begun, Gave};
+    ghost use Rattle.openings.specs.OpeningState.{listed, met, given, Through, Due, Stands, Begun, Gave, Ends};
     ghost use Rattle.openings.specs.Answers.{Answered};
 
     /// Begins to open a list: meets the groups that it names. Faults: a 33rd group, one that is not there.
@@ -140,10 +140,11 @@ impl Opening {
         None
     }
 
-    /// Ends the opening. A group that is still due is lacking, which is told at the reference by which it was met.
-    /// Otherwise the first reference on a circle is told, or the list is opened.
-    pub fn finish(&self) -> Result<Opened, Fault>
-        ensures all_given { (meaning : Meaning) → length (met self.now) ≤ length (given self.now) → Through meaning self.now → Answered meaning (listed self.now) result }
+    /// Which group leads to which, where the opening ends well. Faults: a group that is still due is lacking, which is
+    /// told at the reference by which it was met; then the first reference on a circle.
+    pub(crate) fn leads(&self) -> Result<Links, Fault>
+        ensures ends { IfOk result (λ leads. Ends self.now leads) }
+        ensures circle { (meaning : Meaning) → length (met self.now) ≤ length (given self.now) → Through meaning self.now → IfErr result (λ f. OpenFault meaning (listed self.now) f) }
         ensures lacking { (meaning : Meaning) (name : Name) → Due self.now name → HasTexts meaning (given self.now) → meaning name ≡ None → MatchResult result (λ _. ⊥) (λ f. OpenFault meaning (listed self.now) f) }
     {
         if let Some(name) = self.due() {
@@ -151,6 +152,16 @@ impl Opening {
         }
         let leads = self.links.closed();
         self.check_circles(&leads)?;
+        Ok(leads)
+    }
+
+    /// Ends the opening. A group that is still due is lacking, which is told at the reference by which it was met.
+    /// Otherwise the first reference on a circle is told, or the list is opened.
+    pub fn finish(&self) -> Result<Opened, Fault>
+        ensures all_given { (meaning : Meaning) → length (met self.now) ≤ length (given self.now) → Through meaning self.now → Answered meaning (listed self.now) result }
+        ensures lacking { (meaning : Meaning) (name : Name) → Due self.now name → HasTexts meaning (given self.now) → meaning name ≡ None → MatchResult result (λ _. ⊥) (λ f. OpenFault meaning (listed self.now) f) }
+    {
+        let leads = self.leads()?;
         Ok(Opened {
             list: self.list,
             names: self.names,
