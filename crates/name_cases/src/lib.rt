@@ -155,6 +155,22 @@ mod tests {
         Ok(())
     }
 
+    // The place of the last part. A loop over a walk ends by what the walk promises, and asks its writer for no measure.
+    fn last_place(name: &Name) -> usize {
+        let mut last = 0;
+        for (place, _) in name.parts() {
+            last = place;
+        }
+        last
+    }
+
+    #[test]
+    fn parts_in_a_loop(rt: HostRuntime) -> Result<(), Fail> {
+        assert!(rt; last_place(&Name::new(b"lock.up@ted+app")?) == 12);
+        assert!(rt; last_place(&Name::new(b"lock")?) == 0);
+        Ok(())
+    }
+
     #[test]
     fn words(rt: HostRuntime) {
         assert!(rt; told::<Name>(&[b'w'; 31]).is_none());

@@ -1,9 +1,9 @@
 -- How many bytes are of some kind, and where they are.
-use Rattle.std.proofs.Common.{◌≡◌, ℕ, zero, suc, ◌+◌, ◌<◌, ◌≤◌, Bool, true, cond, List, [], ◌∷◌, ◌++◌, get_or, take, drop, take-append-drop, drop-cons, Some, None, Option, MatchOption, slice_get, filter, sym, refl, ap, ◌∙◌, subst, arith}
-use Rattle.std.specs.List.{enumerate_from, count_by}
+use Rattle.std.proofs.Common.{◌≡◌, ℕ, zero, suc, ◌+◌, ◌<◌, ◌≤◌, Bool, true, cond, List, [], ◌∷◌, ◌++◌, length, get_or, take, drop, take-append-drop, drop-cons, Some, None, Option, MatchOption, slice_get, filter, sym, refl, ap, ◌∙◌, subst, arith}
+use Rattle.std.specs.List.{enumerate_from}
 use Rattle.std.specs.Option.{option_map}
 use Rattle.std.proofs.lemmas.Bool.{cond_both}
-use Rattle.std.proofs.lemmas.List.Recursion.{is_count_by}
+use Rattle.std.proofs.lemmas.List.{take_more}
 use Rattle.names.specs.Words.{count_of}
 use Rattle.names.specs.Joints.{JointAt}
 
@@ -12,8 +12,9 @@ module _ (p : ℕ → Bool) where
   count_append [] t = omega arith
   count_append (b ∷ s) t = omega (arith, count_append s t)
 
-  pub count_of_is : (text : List ℕ) → count_of p text ≡ count_by p text
-  count_of_is text = is_count_by (count_of p) p refl (λ b bs. cond_both (p b) (1 + count_of p bs) (count_of p bs) (λ n. cond (p b) 1 0 + count_of p bs ≡ n) (λ is. ap {B = ℕ} (λ v. cond v 1 0 + count_of p bs) is) (λ no. ap {B = ℕ} (λ v. cond v 1 0 + count_of p bs) no ∙ omega arith)) text
+  -- a byte more of a text counts if it is of the kind
+  pub count_more : (text : List ℕ) (i : ℕ) → i < length text → count_of p (take (i + 1) text) ≡ count_of p (take i text) + cond (p (get_or text i 0)) 1 0
+  count_more text i lt = ap (count_of p) (take_more text i 0 lt) ∙ count_append (take i text) (get_or text i 0 ∷ []) ∙ omega arith
 
   -- the bytes of the kind in a text that begins at a place, each with its place
   abbrev placed : ℕ → List ℕ → List (ℕ × ℕ)

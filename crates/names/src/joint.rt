@@ -29,18 +29,20 @@ fn kind_of(b: u8, due: bool) -> Kind
     }
 }
 
-/// Checks that the text is words, joined by the bytes that the test takes.
-pub(crate) fn check_joined<F: Fn(u8) -> bool>(text: &[u8], joins: F) -> Result<(), Fault>
+/// Checks that the text is words, joined by the bytes that the test takes, and answers how many bytes join them.
+pub(crate) fn check_joined<F: Fn(u8) -> bool>(text: &[u8], joins: F) -> Result<usize, Fault>
     requires { F.IsAlwaysCallable joins }
-    ensures { (joint : ℕ → Bool) → TellsJoints F.Fn joins joint → MatchResult result (λ _. Joined joint text.now) (Unjoined joint text.now) }
+    ensures { (joint : ℕ → Bool) → TellsJoints F.Fn joins joint → MatchResult result (λ n. Joined joint text.now × (n ≡ count_of joint text.now)) (Unjoined joint text.now) }
 {
-    // A loop: in a `try_fold` the closure would carry `letters` and end with the same fault, so it is no plainer.
+    // A loop: in a `try_fold` the closure would carry both counts and end with the same fault, so it is no plainer.
+    let mut count = 0;
     let mut letters = 0;
     for (i, b) in text.iter().enumerate() {
         if is_word_byte(*b) && letters < MAX_WORD_BYTES {
             letters += 1;
         } else if letters > 0 && joins(*b) {
             letters = 0;
+            count += 1;
         } else {
             return Err(Fault::at(kind_of(*b, letters == 0), i));
         }
@@ -48,15 +50,7 @@ pub(crate) fn check_joined<F: Fn(u8) -> bool>(text: &[u8], joins: F) -> Result<(
     if letters == 0 {
         return Err(Fault::at(Kind::WordMissing, text.len()));
     }
-    Ok(())
-}
-
-/// How many marks the text has.
-#[tactic(auto, using(crate::proofs::Counts::count_of_is))]
-pub(crate) fn count_marks(text: &[u8]) -> usize
-    ensures { result ≡ count_of mark_byte text.now }
-{
-    text.iter().filter(|b| is_mark(**b)).count()
+    Ok(count)
 }
 
 /// The place of the mark that has `n` others before it, or none where the text has too few.

@@ -1,12 +1,17 @@
 //! Names, and the partial names that calls are given.
-ghost use Rattle.std.specs.Prelude.{◌≡◌};
+ghost use Rattle.std.specs.Prelude.{◌≡◌, ℕ, ◌-◌, Option, MatchResult, length};
+ghost use Rattle.std.specs.Iterator.{at_most};
+ghost use Rattle.faults.specs.Answers.{Refused};
 ghost use Rattle.faults.specs.Lawful.{Checked};
 ghost use Rattle.texts.specs.Shown.{shown};
 ghost use Rattle.names.specs.Words.{count_of};
 ghost use Rattle.names.specs.Names.{LawfulName, LawfulPartial, OneRow, PartsOf};
 ghost use Rattle.names.specs.Faults.{NameFault, PartialFault, mark_byte};
+ghost use Rattle.names.specs.Parts.{Walks};
+ghost use Rattle.names.specs.declared.part.Part.{Part as WalkedPart};
+ghost use Rattle.names.specs.declared.part.Parts.{Parts};
 
-use super::joint::{check_joined, count_marks, is_mark, nth_mark};
+use super::joint::{check_joined, is_mark, nth_mark};
 use super::limit::copy_within;
 use super::part::Parts;
 use faults::fault::Fault;
@@ -35,6 +40,21 @@ pub struct Name {
     ghost counted: { marks ≡ count_of mark_byte (shown text) },
 }
 
+// Checks that the text is a name, and answers how many marks it has.
+fn check_name(text: &[u8]) -> Result<usize, Fault>
+    ensures { MatchResult result (λ marks. LawfulName text.now × (marks ≡ count_of mark_byte text.now)) (Refused (LawfulName text.now) (NameFault text.now)) }
+{
+    if text.len() > MAX_NAME_BYTES {
+        return Err(Fault::at(Kind::NameTooLong, MAX_NAME_BYTES));
+    }
+    let marks = check_joined(text, is_mark)?;
+    if marks > MAX_MARKS {
+        let place = nth_mark(text, MAX_MARKS).unwrap();
+        return Err(Fault::at(Kind::NameTooLong, place));
+    }
+    Ok(marks)
+}
+
 impl LawfulText for Name {
     ghost shows = { λ n. shown n.text };
 
@@ -45,15 +65,9 @@ impl LawfulText for Name {
     fn new(text: &[u8]) -> Result<Name, Fault>
         ensures { Checked (λ n. shown n.text) LawfulName NameFault text.now result }
     {
-        let held = copy_within::<MAX_NAME_BYTES>(text, Kind::NameTooLong)?;
-        check_joined(text, is_mark)?;
-        if let Some(place) = nth_mark(text, MAX_MARKS) {
-            return Err(Fault::at(Kind::NameTooLong, place));
-        }
-        Ok(Name {
-            text: held,
-            marks: count_marks(text),
-        })
+        let marks = check_name(text)?;
+        let text = Text::copy_of(text).unwrap();
+        Ok(Name { text, marks })
     }
 
     fn as_bytes(&self) -> &[u8]
@@ -73,10 +87,13 @@ impl Name {
     }
 
     /// A walk over the parts of the name, from its front.
-    pub fn parts(&self) -> Parts<'_>
+    pub fn parts<'a>(&'a self) -> Parts<'a>
         ensures text { result.text.now ≡ shown self.now.text }
         ensures start { result.at ≡ 0 }
         ensures row { OneRow (shown self.now.text) }
+        ensures starts { (s : Parts) → ⟦<Parts<'a> as Iterator>⟧.can_next s }
+        ensures steps { (s t : Parts) (given : Option (ℕ × WalkedPart)) → ⟦<Parts<'a> as Iterator>⟧.next_gives s given t → Walks s.text.now s.at given t.text.now t.at }
+        ensures ends { (s : Parts) → ⟦<Parts<'a> as Iterator>⟧.remaining s ≡ at_most (length s.text.now - s.at) }
     {
         Parts {
             text: self.as_bytes(),

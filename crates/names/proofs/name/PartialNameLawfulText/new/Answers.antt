@@ -23,10 +23,10 @@ pub invariant_of-result : goal.invariant_of-result
 invariant_of-result c =
     let held = c.in_ok-held.ensures in
     let joined = c.in_ok-check_joined.ensures dot_byte (record { answers = λ b r e. search rules; apart = dot_apart }) in
-    record { lawful = ∣ subst LawfulPartial (sym held.1) (record { form = joined_partial joined; short = held.0 }) ∣₁ }
+    record { lawful = ∣ subst LawfulPartial (sym held.1) (record { form = joined_partial joined.0; short = held.0 }) ∣₁ }
 
 pub returns : goal.returns
 returns c =
     let held = c.in_ok-held.ensures in
     let joined = c.in_ok-check_joined.ensures dot_byte (record { answers = λ b r e. search rules; apart = dot_apart }) in
-    (held.1, partial_accepted c.args.text.now (record { form = joined_partial joined; short = held.0 }))
+    (held.1, partial_accepted c.args.text.now (record { form = joined_partial joined.0; short = held.0 }))

@@ -8,17 +8,17 @@ use Rattle.names.proofs.Forms.{slash_byte, slash_apart}
 use Rattle.names.proofs.Slashes.{slashed, path_of, path_slip, path_first}
 use Rattle.faults.specs.declared.kind.Kind.TheVariants.{PathUnlawful}
 use Rattle.std.specs.Cmp.Lexicographic.{pointwise, other_text}
-use Rattle.names.specs.Words.{Joined}
+use Rattle.names.specs.Words.{Joined, count_of}
 use Rattle.names.specs.Joints.{Unjoined}
 use Rattle.names.proofs.OneFault.{path_accepted, path_refused}
 use Rattle.names.proofs.path.PathLawfulText.new.Goals as goal
 
 -- what is known of a result, where `map_err` has made another of it
-kept : {T : Type 0} (given made : Result T Fault) (x : T) (Made : Fault → Fault → Type 0) (P : Type 0) (Q : Fault → Type 0) → MatchResult given (λ y. made ≡ Ok y) (λ e. IsErrAnd made (Made e)) → made ≡ Ok x → MatchResult given (λ _. P) Q → P
-kept (Ok y) made x Made P Q is e h = h
-kept (Err f) made x Made P Q is e h = absurd (subst (λ r. IsErrAnd r (Made f)) e is)
+kept : {T : Type 0} (given made : Result T Fault) (x : T) (Made : Fault → Fault → Type 0) (P : Type 0) (C : T → Type 0) (Q : Fault → Type 0) → MatchResult given (λ y. made ≡ Ok y) (λ e. IsErrAnd made (Made e)) → made ≡ Ok x → MatchResult given (λ n. P × C n) Q → P
+kept (Ok y) made x Made P C Q is e h = h.0
+kept (Err f) made x Made P C Q is e h = absurd (subst (λ r. IsErrAnd r (Made f)) e is)
 
-mapped : {T : Type 0} (given made : Result T Fault) (f : Fault) (Made : Fault → Fault → Type 0) (P : Type 0) (Q : Fault → Type 0) → MatchResult given (λ y. made ≡ Ok y) (λ e. IsErrAnd made (Made e)) → made ≡ Err f → MatchResult given (λ _. P) Q → (e : Fault) × (Q e × Made e f)
+mapped : {T : Type 0} (given made : Result T Fault) (f : Fault) (Made : Fault → Fault → Type 0) (P : T → Type 0) (Q : Fault → Type 0) → MatchResult given (λ y. made ≡ Ok y) (λ e. IsErrAnd made (Made e)) → made ≡ Err f → MatchResult given P Q → (e : Fault) × (Q e × Made e f)
 mapped (Ok x) made f Made P Q is e h = let no : ◌≡◌ {A = Result _ Fault} (Ok x) (Err f) = sym is ∙ e in absurd (cc no)
 mapped (Err g) made f Made P Q is e h = (g, (h, subst (λ r. IsErrAnd r (Made g)) e is))
 
@@ -40,7 +40,7 @@ returns-in_err-words c =
 pub map_err-requires : goal.map_err-requires
 map_err-requires c = λ f is.
     let words = c.in_ok-words.words.now in
-    let slip = subst (λ r. MatchResult r (λ _. Joined slash_byte words) (Unjoined slash_byte words)) is (c.check_joined.ensures slash_byte (record { answers = λ b r e. search rules; apart = slash_apart })) in
+    let slip = subst (λ r. MatchResult r (λ n. Joined slash_byte words × (n ≡ count_of slash_byte words)) (Unjoined slash_byte words)) is (c.check_joined.ensures slash_byte (record { answers = λ b r e. search rules; apart = slash_apart })) in
     let same : f.place ≡ slip.place = ap (λ g. g.place) slip.told in
     let part : length words + 1 ≡ length c.args.text.now = search rules in
     omega (arith, same, slip.stuck.within, part, c.in_ok-held.ensures.0)
@@ -51,7 +51,7 @@ returns-in_err-map_err c =
     let words = c.in_ok-words.words.now in
     let p = err_from_is_err_and c.from_residual-in_err-map_err.result c.from_residual-in_err-map_err.ensures.1 in
     let checked = c.check_joined.ensures slash_byte (record { answers = λ b r e. search rules; apart = slash_apart }) in
-    let (f, (slip, told)) = mapped c.check_joined.result c.map_err.result _ _ (Joined slash_byte words) (Unjoined slash_byte words) c.map_err.ensures.cases c.in_err-map_err.was checked in
+    let (f, (slip, told)) = mapped c.check_joined.result c.map_err.result _ _ (λ n. Joined slash_byte words × (n ≡ count_of slash_byte words)) (Unjoined slash_byte words) c.map_err.ensures.cases c.in_err-map_err.was checked in
     rw (p.1, p.2) (path_refused text _ (subst (PathFault text) (sym told) (path_slip text words f (slashed text words (search rules) (search rules)) c.in_ok-held.ensures.0 slip)))
 
 pub invariant_of-result : goal.invariant_of-result
@@ -60,7 +60,7 @@ invariant_of-result c =
     let words = c.in_ok-words.words.now in
     let held = c.in_ok-held.ensures in
     let checked = c.check_joined.ensures slash_byte (record { answers = λ b r e. search rules; apart = slash_apart }) in
-    let joined = kept c.check_joined.result c.map_err.result _ _ (Joined slash_byte words) (Unjoined slash_byte words) c.map_err.ensures.cases c.in_ok-map_err.was checked in
+    let joined = kept c.check_joined.result c.map_err.result _ _ (Joined slash_byte words) (λ n. n ≡ count_of slash_byte words) (Unjoined slash_byte words) c.map_err.ensures.cases c.in_ok-map_err.was checked in
     let form = subst IsPath (sym (slashed text words (search rules) (search rules))) (path_of joined) in
     record { lawful = ∣ subst LawfulPath (sym held.1) (record { form = form; short = held.0 }) ∣₁ }
 
@@ -70,6 +70,6 @@ returns c =
     let words = c.in_ok-words.words.now in
     let held = c.in_ok-held.ensures in
     let checked = c.check_joined.ensures slash_byte (record { answers = λ b r e. search rules; apart = slash_apart }) in
-    let joined = kept c.check_joined.result c.map_err.result _ _ (Joined slash_byte words) (Unjoined slash_byte words) c.map_err.ensures.cases c.in_ok-map_err.was checked in
+    let joined = kept c.check_joined.result c.map_err.result _ _ (Joined slash_byte words) (λ n. n ≡ count_of slash_byte words) (Unjoined slash_byte words) c.map_err.ensures.cases c.in_ok-map_err.was checked in
     let form = subst IsPath (sym (slashed text words (search rules) (search rules))) (path_of joined) in
     (held.1, path_accepted text (record { form = form; short = held.0 }))
