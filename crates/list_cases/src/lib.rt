@@ -142,6 +142,21 @@ mod tests {
         assert!(rt; tokens.next_token() == Ok(None));
     }
 
+    // The place of the last token. A loop over a walk ends by what the walk promises, and asks its writer for no measure.
+    fn last_place(list: &AccessList) -> usize {
+        let mut last = 0;
+        for lexeme in list.tokens() {
+            last = lexeme.place;
+        }
+        last
+    }
+
+    #[test]
+    fn tokens_in_a_loop(rt: HostRuntime) {
+        let last = AccessList::new(b" log in|{ g }* ").map(|list| last_place(&list));
+        assert!(rt; last == Ok(13));
+    }
+
     // A fault leaves the reader where it is, so that it is told again.
     #[test]
     fn a_fault_is_told_again(rt: HostRuntime) {

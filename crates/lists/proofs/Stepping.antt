@@ -1,5 +1,5 @@
 -- A step of a walk over tokens.
-use Rattle.std.proofs.Common.{◌≡◌, ℕ, ◌-◌, ◌<◌, ◌≤◌, Bool, true, false, List, [], ◌∷◌, length, IfSome, Some, None, Ok, Err, Option, Result, sym, refl, ap, ◌∙◌, subst, arith}
+use Rattle.std.proofs.Common.{◌≡◌, ℕ, ◌-◌, ◌<◌, ◌≤◌, Bool, true, false, List, [], ◌∷◌, length, IfSome, MatchOption, Some, None, Ok, Err, Option, Result, sym, refl, ap, ◌∙◌, subst, arith}
 use borrow.Author.Tests.{clash}
 use Rattle.std.specs.List.{AllByRecursion}
 use Rattle.std.specs.Result.{result_ok}
@@ -8,7 +8,7 @@ use Rattle.lists.specs.declared.token.Lexeme.{Lexeme}
 use Rattle.lists.specs.Trees.{Sign, atom, group, open_bracket, close_bracket, star, bar}
 use Rattle.lists.specs.Bytes.{IsGroupName}
 use Rattle.lists.specs.Tokens.{Shows, shows_word, shows_mark, shows_group}
-use Rattle.lists.specs.Lexemes.{TokenAt, Passes, is_blank}
+use Rattle.lists.specs.Lexemes.{TokenAt, Next, Passes, is_blank}
 use Rattle.lists.specs.Placed.{Placed, none, more, Walks}
 use Rattle.lists.proofs.Machine.{sign_cases}
 use Rattle.lists.proofs.Segments.{part_none, past_end}
@@ -49,14 +49,14 @@ pub record Stepped (text : List ℕ) (at : ℕ) (given : Option Lexeme) (at' : �
   pub inside : at' ≤ length text
   pub falls : IfSome given (λ _. Unit {0} × Unit {0} × (length text - at' < length text - at))
 
-stepped : (text : List ℕ) (at : ℕ) (given : Option Lexeme) (at' : ℕ) → Passes text at at' (Ok given) → Stepped text at given at'
-stepped text at None at' (g, end) = record {
+pub stepped : (text : List ℕ) (at : ℕ) (given : Option Lexeme) (at' : ℕ) → Next text at given → MatchOption given (at' ≡ length text) (λ l. at' ≡ l.end) → Stepped text at given at'
+stepped text at None at' g end = record {
   walks = record { kept = refl; found = g; token = λ ps r. placed_unique text at r (none g); group = tt; end = end; onward = tt };
   on = λ r. ([], subst (λ k. Placed text k []) (sym end) (end_left text));
   inside = omega arith;
   falls = tt;
 }
-stepped text at (Some l) at' (t, end) = record {
+stepped text at (Some l) at' t end = record {
   walks = record {
     kept = refl;
     found = t;
@@ -70,10 +70,11 @@ stepped text at (Some l) at' (t, end) = record {
   falls = (tt, tt, omega (arith, t.gap.forward, t.some, t.within));
 }
 
--- the step that a reader took
-pub passed : (text : List ℕ) (at : ℕ) (r : Result (Option Lexeme) Fault) (given : Option Lexeme) (at' : ℕ) → Passes text at at' r → Some given ≡ result_ok r → Stepped text at given at'
-passed text at (Ok o) given at' p e = stepped text at given at' (let same : o ≡ given = cc in subst (λ x. Passes text at at' (Ok x)) same p)
-passed text at (Err f) given at' p e = let z : ◌≡◌ {A = ℕ} 0 1 = cc in absurd (omega arith)
+-- what a reader found, and where it stands then
+pub passed : (text : List ℕ) (at : ℕ) (r : Result (Option Lexeme) Fault) (given : Option Lexeme) (to : ℕ) → Passes text at to r → Some given ≡ result_ok r → Next text at given × MatchOption given (to ≡ length text) (λ l. to ≡ l.end)
+passed text at (Ok o) None to p e = let same : o ≡ None = cc in subst (λ x. Passes text at to (Ok x)) same p
+passed text at (Ok o) (Some l) to p e = let same : o ≡ Some l = cc in subst (λ x. Passes text at to (Ok x)) same p
+passed text at (Err f) given to p e = let z : ◌≡◌ {A = ℕ} 0 1 = cc in absurd (omega arith)
 
 -- where tokens go on to the text's end, a reader takes a step
 pub passes_some : (text : List ℕ) (at : ℕ) (r : Result (Option Lexeme) Fault) (at' : ℕ) → (ps : List (ℕ × Sign)) × Placed text at ps → Passes text at at' r → None ≡ result_ok r → ⊥

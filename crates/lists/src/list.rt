@@ -1,10 +1,13 @@
 //! Access lists.
-ghost use Rattle.std.specs.Prelude.{◌≡◌};
+ghost use Rattle.std.specs.Prelude.{◌≡◌, ◌-◌, Option, length};
+ghost use Rattle.std.specs.Iterator.{at_most};
 ghost use Rattle.faults.specs.Lawful.{Checked};
 ghost use Rattle.texts.specs.Shown.{shown};
 ghost use Rattle.lists.specs.Texts.{LawfulList, OneReading};
 ghost use Rattle.lists.specs.Faults.{ListFault};
-ghost use Rattle.lists.specs.Placed.{OnePlacing};
+ghost use Rattle.lists.specs.Placed.{OnePlacing, Walks};
+ghost use Rattle.lists.specs.declared.token.Lexeme.{Lexeme};
+ghost use Rattle.lists.specs.declared.walk.ListTokens.{ListTokens};
 
 use super::check::check_list;
 use super::walk::ListTokens;
@@ -49,10 +52,13 @@ impl LawfulText for AccessList {
 
 impl AccessList {
     /// The tokens of the list, from its front.
-    pub fn tokens(&self) -> ListTokens<'_>
+    pub fn tokens<'a>(&'a self) -> ListTokens<'a>
         ensures text { result.text.now ≡ shown self.now.text }
         ensures start { result.at ≡ 0 }
         ensures placing { OnePlacing (shown self.now.text) }
+        ensures starts { (s : ListTokens) → ⟦<ListTokens<'a> as Iterator>⟧.can_next s }
+        ensures steps { (s t : ListTokens) (given : Option Lexeme) → ⟦<ListTokens<'a> as Iterator>⟧.next_gives s given t → Walks s.text.now s.at given t.text.now t.at }
+        ensures ends { (s : ListTokens) → ⟦<ListTokens<'a> as Iterator>⟧.remaining s ≡ at_most (length s.text.now - s.at) }
     {
         ListTokens {
             text: self.as_bytes(),

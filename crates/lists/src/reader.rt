@@ -49,7 +49,9 @@ impl<'a> Tokens<'a> {
         Tokens { text, at: 0 }
     }
 
+    // Always inlined, as `peek` is: most tokens are of few bytes, and a call for each would cost about half of reading it.
     /// The next token, which the reader then passes; none where only blanks are left; or the fault that comes first.
+    #[inline(always)]
     pub fn next_token(&mut self) -> Result<Option<Lexeme<'a>>, Fault>
         ensures { Passes self.old.text.now self.old.at self.new.at result × (self.new.text.now ≡ self.old.text.now) }
     {
@@ -59,6 +61,7 @@ impl<'a> Tokens<'a> {
     }
 
     // The next token, or none where only blanks are left.
+    #[inline(always)]
     fn peek(&self) -> Result<Option<Lexeme<'a>>, Fault>
         ensures { MatchResult result (λ n. Next self.now.text.now self.now.at n) (λ f. TokenFault self.now.text.now self.now.at f) }
     {

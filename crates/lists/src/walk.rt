@@ -2,7 +2,7 @@
 ghost use Rattle.std.specs.Prelude.{ℕ, ◌-◌, ◌≤◌, List, length};
 ghost use Rattle.lists.specs.Trees.{Sign};
 ghost use Rattle.lists.specs.Placed.{Placed, Walks};
-ghost use Rattle.std.specs.Iterator.{at_most, MakesProgress};
+ghost use Rattle.std.specs.Iterator.{at_most};
 
 use super::reader::Tokens;
 use super::token::Lexeme;
@@ -24,10 +24,7 @@ impl<'a> Iterator for ListTokens<'a> {
 
     ghost remaining = { λ s. at_most (length s.text.now - s.at) };
 
-    fn next(&mut self) -> Option<Lexeme<'a>>
-        ensures steps { Walks self.old.text.now self.old.at result self.new.text.now self.new.at }
-        ensures goes { MakesProgress (λ _. Unit {0}) (λ s. at_most (length s.text.now - s.at)) self.old result self.new }
-    {
+    fn next(&mut self) -> Option<Lexeme<'a>> {
         let mut tokens = Tokens {
             text: self.text,
             at: self.at,

@@ -1,4 +1,4 @@
-use Rattle.std.proofs.Common.{sym, refl, subst, arith}
+use Rattle.std.proofs.Common.{sym, subst, arith}
 use mathlib.Core.Logic.{∥∥₁_map}
 use Rattle.lists.specs.Texts.{LawfulList}
 use Rattle.lists.proofs.Placing.{lawful_placed, one_placing}
@@ -8,5 +8,5 @@ pub invariant_of-result : goal.invariant_of-result
 invariant_of-result c =
     record { readable = ∥∥₁_map c.args.self.now.lawful (λ l. lawful_placed (subst LawfulList (sym c.as_bytes.ensures) l)); within = omega arith }
 
-pub returns : goal.returns
-returns c = record { text = c.as_bytes.ensures; start = refl; placing = one_placing _ }
+pub returns-clause-placing : goal.returns-clause-placing
+returns-clause-placing c = one_placing _
