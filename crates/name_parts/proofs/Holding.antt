@@ -6,17 +6,18 @@ use Rattle.names.specs.Names.{Part, word, dot, IsName, LawfulName}
 use Rattle.names.proofs.Deciding.{Decided, lawful_name}
 use Rattle.names.proofs.Places.{alternates}
 use Rattle.positions.specs.Places.{Has}
+use Rattle.positions.specs.Rows.{row_at}
 use Rattle.positions.proofs.Digits.{has_or_not}
 use Rattle.runs.specs.declared.relation.Runs.{Runs}
 use Rattle.runs.specs.Runs.{Ends}
 use Rattle.name_parts.specs.declared.mark.Mark.{Mark}
 use Rattle.name_parts.specs.declared.mark.Mark.TheVariants.{Dot}
 use Rattle.name_parts.specs.declared.outline.Outline.{Outline}
-use Rattle.name_parts.specs.Marks.{part_of_mark}
+use Rattle.name_parts.specs.Marks.{part_of_mark, number_of}
 use Rattle.name_parts.specs.Slices.{PartAt}
 use Rattle.name_parts.specs.Outlines.{WordAt, start_of, Sees, count_of, mark_places, Outlined, OutlineOf, EndOf, BytesAt}
 use Rattle.name_parts.specs.Dotted.{DottedWords}
-use Rattle.name_parts.specs.Tables.{PartialNames}
+use Rattle.name_parts.specs.Tables.{PlacesOf, PartialNames}
 use Rattle.name_parts.proofs.Mere.{mere_out}
 use Rattle.name_parts.proofs.Standing.{part_here, part_or_not, word_or_not}
 use Rattle.name_parts.proofs.Spelling.{start_more, start_within}
@@ -79,3 +80,7 @@ module _ (text : List ℕ) (o : Outline) (mere : ∥ OutlineOf text o ∥₁) wh
   -- at a place of a word, the bytes of the part are the word
   pub word_here : (ps : List Part) → IsName text ps → (i : ℕ) (bytes : List ℕ) → BytesAt text i bytes → Has o.words.digits i → PartAt ps (word bytes) i
   word_here ps name i bytes here has = let (v, at-it) = (held_words ps name i).0 has in subst (λ u. PartAt ps (word u) i) (sym (here ps name (word v) at-it)) at-it
+
+-- the row with the number of a mark holds the places of the mark
+pub held_row : (text : List ℕ) (o : Outline) → ∥ OutlineOf text o ∥₁ → (m : Mark) (n : ℕ) → n ≡ number_of m → PlacesOf text (part_of_mark m) (row_at o.marks n).digits
+held_row text o mere m n same = subst (λ k. PlacesOf text (part_of_mark m) (row_at o.marks k).digits) (sym same) (λ ps name. held_mark text o mere ps name m)

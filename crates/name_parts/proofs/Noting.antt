@@ -48,6 +48,12 @@ tagged Dot = refl
 tagged At = refl
 tagged Plus = refl
 
+-- there are three marks
+pub number_small : (m : Mark) → number_of m < 3
+number_small Dot = omega arith
+number_small At = omega arith
+number_small Plus = omega arith
+
 kind_of_mark : (m : Mark) → kind (part_of_mark m) ≡ number_of m + 1
 kind_of_mark Dot = refl
 kind_of_mark At = refl
