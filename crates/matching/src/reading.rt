@@ -50,7 +50,10 @@ impl Reading {
     pub(crate) fn star(&mut self, places: FirstPlaces)
         ensures { Repeated self.old places.count self.new }
     {
-        self.last = self.last.map(|step| step.starred(places));
+        // Not by `map`: a step is large, and would be copied on its way in and out.
+        if let Some(step) = &mut self.last {
+            *step = step.starred(places);
+        }
     }
 
     // The runs of the sequence join those that are done.

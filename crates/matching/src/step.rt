@@ -50,6 +50,10 @@ impl Step {
     pub(crate) fn starred(self, places: FirstPlaces) -> Step
         ensures { StepCounted self places.count → Repeats self result places.count }
     {
-        Step::Closed(self.into_runs(places).closed())
+        match self {
+            // Any number of times, any number of times, is any number of times.
+            Step::Closed(_) => self,
+            _ => Step::Closed(self.into_runs(places).closed()),
+        }
     }
 }

@@ -7,12 +7,22 @@ use Rattle.positions.proofs.Digits.{has_or_not}
 use Rattle.positions.specs.Places.{Has}
 use Rattle.runs.specs.declared.relation.Runs.{Runs}
 use Rattle.runs.specs.Relations.{Reach, Closure, done, further}
-use Rattle.runs.specs.Runs.{Closed}
+use Rattle.runs.specs.Runs.{Ends, Reflexive, Closed}
 use Rattle.runs.proofs.Reaching.{reach_one, reach_trans, reach_onward}
 
 -- that a relation is closed may be taken from the mere statement
 pub closed_runs : (r : Runs) → ∥ Closed r ∥₁ → Closed r
 closed_runs r mere i k j a b = (a.0, ⊎_elim (λ h. h) (λ n. absurd (∥∥₁_elim mere ⊥_prop (λ closed. n (closed i k j a b).1))) (has_or_not _ j))
+
+-- that a relation is reflexive may be taken from the mere statement
+pub reflexive_runs : (r : Runs) → ∥ Reflexive r ∥₁ → Reflexive r
+reflexive_runs r mere i lt = (lt, ⊎_elim (λ h. h) (λ n. absurd (∥∥₁_elim mere ⊥_prop (λ reflexive. n (reflexive i lt).1))) (has_or_not _ i))
+
+-- what is reached by a relation that is reflexive and closed is an end of it
+pub reach_ends : (r : Runs) → Reflexive r → Closed r → {i j : ℕ} → i < r.count → Reach (Ends r) i j → Ends r i j
+reach_ends r reflexive closed {i} lt (done e) = subst (Ends r i) (sym e) (reflexive i lt)
+reach_ends r reflexive closed {i} {j} lt (further m a (done e)) = subst (Ends r i) (sym e) a
+reach_ends r reflexive closed {i} {j} lt (further m a (further k b way)) = closed i m j a (reach_ends r reflexive closed b.0 (further k b way))
 
 -- from the places from one on that are not in a set no run leads anywhere else
 abbrev pub Still : (ℕ → ℕ → Type 0) → ℕ → ℕ → Type 0

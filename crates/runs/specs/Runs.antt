@@ -7,6 +7,10 @@ use Rattle.positions.specs.Rows.{At}
 abbrev pub Ends : Runs → ℕ → ℕ → Type 0
 Ends r i j = (i < r.count) × At r.rows i j
 
+-- from each of the first places a run ends where it starts
+abbrev pub Reflexive : Runs → Type 0
+Reflexive r = (i : ℕ) → i < r.count → Ends r i i
+
 -- a run after a run is a run
 abbrev pub Closed : Runs → Type 0
 Closed r = (i k j : ℕ) → Ends r i k → Ends r k j → Ends r i j

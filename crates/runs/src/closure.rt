@@ -1,15 +1,16 @@
 //! Any number of runs, each from where the one before ended.
 ghost use Rattle.std.specs.Prelude.{◌≡◌};
 ghost use Rattle.runs.specs.Relations.{Closure};
-ghost use Rattle.runs.specs.Runs.{Ends, Closed, Becomes};
+ghost use Rattle.runs.specs.Runs.{Ends, Reflexive, Closed, Becomes};
 
 use super::relation::Runs;
 use positions::Positions;
 
-/// A relation in which a run after a run is a run.
+/// A relation in which a run after a run is a run, and from each of the first places a run ends where it starts.
 #[derive(Clone, Copy)]
 pub struct ClosedRuns {
     pub(crate) runs: Runs,
+    ghost reflexive: { ∥ Reflexive runs ∥₁ },
     ghost closed: { ∥ Closed runs ∥₁ },
 }
 

@@ -1,8 +1,9 @@
-use Rattle.std.proofs.Common.{rules, ◌≡◌, ◌≢◌, ℕ, ◌+◌, ◌-◌, ◌<◌, ◌≤◌, ◌↔◌, ◌∙◌, sym, subst, inl, inr, ⊎_elim, arith}
+use Rattle.std.proofs.Common.{rules, ◌≡◌, ◌≢◌, ℕ, ◌+◌, ◌-◌, ◌<◌, ◌≤◌, ◌↔◌, ◌∙◌, sym, refl, subst, inl, inr, ⊎_elim, arith}
 use Rattle.std.proofs.lemmas.Bool.{cases_eq}
 use Rattle.positions.specs.Places.{Has}
 use Rattle.positions.proofs.Digits.{has_or_not}
-use Rattle.runs.specs.Runs.{Ends, Closed}
+use Rattle.runs.specs.Runs.{Ends, Reflexive, Closed}
+use Rattle.runs.specs.Relations.{done}
 use Rattle.runs.proofs.Reaching.{reach_trans}
 use Rattle.runs.proofs.Closing.{From, Still, past, past_closed, closed_row, from_more}
 use Rattle.runs.proofs.relation.Runs.closed.Goals as goal
@@ -92,4 +93,5 @@ invariant_of-result c =
     let closed : Closed c.loop-i.runs = λ i k j a b.
     let (lt, r) = (from.after i k (omega arith)).0 a in
     (from.after i j (omega arith)).1 (lt, reach_trans r ((from.after k j (omega arith)).0 b).1) in
-    record { closed = ∣ closed ∣₁ }
+    let reflexive : Reflexive c.loop-i.runs = λ i lt. (from.after i i (omega arith)).1 (omega arith, done refl) in
+    record { reflexive = ∣ reflexive ∣₁; closed = ∣ closed ∣₁ }
