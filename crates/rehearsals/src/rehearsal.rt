@@ -21,7 +21,14 @@ use std::num::NonZeroU32;
 
 const LINE_END: u8 = b'\n';
 
-// Whether the list derives the name. The name's fault comes before those of the list and of opening it.
+// How many parts the name has.
+fn part_count(name: &[u8]) -> Result<PartCount, Fault> {
+    Ok(PartCount(Name::new(name)?.part_count()))
+}
+
+// Whether the list derives the name. The name's fault comes before those of the list and of opening it. Never inlined:
+// else each line would pay for the room of what is judged.
+#[inline(never)]
 fn verdict(book: &TableBook<'_>, name: &[u8], list: &[u8]) -> Result<&'static str, Fault> {
     let name = Name::new(name)?;
     let list = AccessList::new(list)?;
@@ -71,8 +78,9 @@ impl<'r, W: Write + Drop> Rehearsal<'r, W> {
         writeln!(self.out)
     }
 
-    // Group names are bytes, so they are written as they are. What is opened stands here, so that other calls do not pay
-    // for its room.
+    // Group names are bytes, so they are written as they are. What is opened stands here, and this is never inlined: else
+    // each line would pay for its room.
+    #[inline(never)]
     fn answer_open(&mut self, list: &[u8]) -> io::Result<()> {
         let list = match AccessList::new(list) {
             Ok(list) => list,
@@ -86,9 +94,7 @@ impl<'r, W: Write + Drop> Rehearsal<'r, W> {
 
     fn answer_call(&mut self, call: Call<'_>) -> io::Result<()> {
         match call {
-            Call::Name(text) => {
-                self.answer_with(Name::new(text).map(|name| PartCount(name.part_count())))
-            }
+            Call::Name(text) => self.answer_with(part_count(text)),
             Call::Path(text) => self.answer_with(Path::new(text).map(|_| "path")),
             Call::List(text) => self.answer_with(AccessList::new(text).map(|_| "list")),
             Call::Group(name, text) => {
